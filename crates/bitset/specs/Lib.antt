@@ -1,0 +1,3 @@
+-- Reading order: what a set of entries is, and how machine words and bytes hold one.
+pub mod Set
+pub mod Words

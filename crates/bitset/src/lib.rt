@@ -1,0 +1,1 @@
+// Sets of entries as four 64-bit words by value.

@@ -1,0 +1,8 @@
+-- Reading order: terms and their equality, what an intruder can derive, the terms of a sheet's entries, their sets of standard
+-- entries, the steps within the entries, and the elimination that decides sums.
+pub mod Term
+pub mod Derivation
+pub mod Entry
+pub mod Standard
+pub mod Within
+pub mod Elimination
