@@ -1,2 +1,6 @@
 pub mod Member
 pub mod Leading
+pub mod Words
+pub mod Top
+pub mod Bytes
+pub mod Choice

@@ -1,1 +1,156 @@
-// Sets of entries as four 64-bit words by value.
+// Sets of entries as four 64-bit words by value. Entry e is bit e mod 64 of word e div 64, and every u8 is an entry.
+// A set's meaning is one natural number, `value` of its words (specs/Words.antt); the contracts speak of that number.
+ghost use mathlib.Core.Path.{_≡_};
+ghost use mathlib.Core.List.{_++_};
+ghost use Prim.Native.Nat.{ℕ, _+_, _*_, _≤_, _<_, _^_};
+ghost use lib.Bits.{bitXor};
+ghost use lib.Count.{ones};
+ghost use lib.Dec.{eqb, leb};
+ghost use mathlib.Core.Bool.{cond};
+ghost use lib.ListN.{length, take, drop};
+ghost use Rattle.bitset.specs.Set.{member, insert, single, leading};
+ghost use Rattle.bitset.specs.Words.{value, bytesOf, setOf};
+
+// No entry.
+pub fn empty() -> [u64; 4]
+    ensures { λ r. ⌜ value r ≡ 0 ⌝ }
+{
+    [0, 0, 0, 0]
+}
+
+// Is e in s?
+pub fn member(s: [u64; 4], e: u8) -> bool
+    ensures { λ r. ⌜ r ≡ member (value s) e ⌝ }
+{
+    let w = s[(e / 64) as usize];
+    (w >> (e % 64)) % 2 == 1
+}
+
+// Exactly e.
+pub fn singleton(e: u8) -> [u64; 4]
+    ensures { λ r. ⌜ value r ≡ single e ⌝ }
+{
+    let mut r: [u64; 4] = [0, 0, 0, 0];
+    r[(e / 64) as usize] = 1 << (e % 64);
+    r
+}
+
+// The entries in exactly one of a and b: exclusive or, word by word.
+pub fn sum(a: [u64; 4], b: [u64; 4]) -> [u64; 4]
+    ensures { λ r. ⌜ value r ≡ bitXor (value a) (value b) ⌝ }
+{
+    [a[0] ^ b[0], a[1] ^ b[1], a[2] ^ b[2], a[3] ^ b[3]]
+}
+
+// s with e.
+pub fn insert(s: [u64; 4], e: u8) -> [u64; 4]
+    ensures { λ r. ⌜ value r ≡ insert (value s) e ⌝ }
+{
+    if member(s, e) {
+        return s;
+    }
+    sum(s, singleton(e))
+}
+
+// Do a and b have the same members?
+pub fn equal(a: [u64; 4], b: [u64; 4]) -> bool
+    ensures { λ r. ⌜ r ≡ eqb (value a) (value b) ⌝ }
+{
+    if a[0] != b[0] {
+        return false;
+    }
+    if a[1] != b[1] {
+        return false;
+    }
+    if a[2] != b[2] {
+        return false;
+    }
+    a[3] == b[3]
+}
+
+// Has s no member?
+pub fn is_empty(s: [u64; 4]) -> bool
+    ensures { λ r. ⌜ r ≡ eqb (value s) 0 ⌝ }
+{
+    equal(s, empty())
+}
+
+// The highest bit of a word that is one, by its leading zeros; 0 for the word 0.
+fn top(w: u64) -> u8
+    ensures { λ r. ⌜ (r ≡ leading w) × (r < 64) ⌝ }
+{
+    if w == 0 {
+        return 0;
+    }
+    (63 - u64::leading_zeros(w)) as u8
+}
+
+// The leading entry of s, its highest-numbered member; 0 for the empty set.
+pub fn leading(s: [u64; 4]) -> u8
+    ensures { λ r. ⌜ r ≡ leading (value s) ⌝ }
+{
+    if s[3] != 0 {
+        return top(s[3]) + 192;
+    }
+    if s[2] != 0 {
+        return top(s[2]) + 128;
+    }
+    if s[1] != 0 {
+        return top(s[1]) + 64;
+    }
+    top(s[0])
+}
+
+// How many members s has.
+pub fn count(s: [u64; 4]) -> u32
+    ensures { λ r. ⌜ r ≡ ones (value s) ⌝ }
+{
+    u64::count_ones(s[0]) + u64::count_ones(s[1]) + u64::count_ones(s[2]) + u64::count_ones(s[3])
+}
+
+// Writes s as 32 bytes at the front of out, and answers true; where out is shorter, it writes nothing and answers false.
+pub fn write(s: [u64; 4], out: &mut [u8]) -> bool
+    ensures fits { λ r. ⌜ r ≡ leb 32 (length (now (out .entry))) ⌝ }
+    ensures bytes { λ r. ⌜ now (out .exit) ≡ cond (leb 32 (length (now (out .entry)))) (bytesOf 32 (value s) ++ drop 32 (now (out .entry))) (now (out .entry)) ⌝ }
+{
+    if out.len() < 32 {
+        return false;
+    }
+    let mut i: usize = 0;
+    while i < 32 {
+        let w = s[i / 8];
+        out[i] = ((w >> (i % 8 * 8)) % 256) as u8;
+        i += 1;
+    }
+    true
+}
+
+// The eight bytes of b from at on, as a word; 0 where b is shorter.
+fn word(b: &[u8], at: usize) -> u64
+    ensures { λ r. ⌜ r ≡ cond (leb (at + 8) (length (now (b .entry)))) (setOf (take 8 (drop at (now (b .entry))))) 0 ⌝ }
+{
+    if b.len() < 8 {
+        return 0;
+    }
+    if b.len() - 8 < at {
+        return 0;
+    }
+    let mut r: u64 = 0;
+    let mut i: usize = 8;
+    while 0 < i {
+        i -= 1;
+        let x = b[at + i];
+        r = r * 256 + (x as u64);
+    }
+    r
+}
+
+// The set that the first 32 bytes of b hold; the empty set where b is shorter.
+pub fn read(b: &[u8]) -> [u64; 4]
+    ensures { λ r. ⌜ value r ≡ cond (leb 32 (length (now (b .entry)))) (setOf (take 32 (now (b .entry)))) 0 ⌝ }
+{
+    if b.len() < 32 {
+        return [0, 0, 0, 0];
+    }
+    [word(b, 0), word(b, 8), word(b, 16), word(b, 24)]
+}

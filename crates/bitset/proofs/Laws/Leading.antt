@@ -80,3 +80,26 @@ leading-between s j low high = antisym upper (leading-top s j there)
 
     antisym : {a b : ℕ} → a ≤ b → b ≤ a → a ≡ b
     antisym p q = omega arith
+
+-- a set is below the power above its leading entry
+pub leading-high : (s : ℕ) → s < 2 ^ suc (leading s)
+unfolding member
+leading-high s = below (s / 2 ^ suc (leading s)) refl
+  where
+    past : (e : ℕ) → member (s / 2 ^ suc (leading s)) e ≡ false
+    past e = go (member s (suc (leading s) + e)) refl
+      where
+        go : (b : Bool) → member s (suc (leading s) + e) ≡ b → member (s / 2 ^ suc (leading s)) e ≡ false
+        go true m = absurd (over (leading-top s (suc (leading s) + e) m))
+          where
+            over : suc (leading s) + e ≤ leading s → ⊥
+            over h = omega arith
+        go false m =
+            ap (λ (x : ℕ). eqb (x % 2) 1) (div-div-eq-div-mul s (2 ^ suc (leading s)) (2 ^ e) ∙ ap (λ (x : ℕ). s / x) (sym (pow-add 2 (suc (leading s)) e))) ∙ m
+
+    below : (q : ℕ) → s / 2 ^ suc (leading s) ≡ q → s < 2 ^ suc (leading s)
+    below zero p = lt-of-lt-of-le (div-lt-iff-lt-mul (pow-pos (suc (leading s))) .0 (le-of-eq (ap suc p))) (le-of-eq (one-mul (2 ^ suc (leading s))))
+    below (suc q) p = absurd (zero-not-suc (no-members (s / 2 ^ suc (leading s)) past ∙ p))
+      where
+        zero-not-suc : 0 ≡ suc q → ⊥
+        zero-not-suc h = omega arith
