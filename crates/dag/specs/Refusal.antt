@@ -1,0 +1,70 @@
+-- The grounding table of document 01, rows 1 to 7, for any list of bytes: each row a test, and the first that holds.
+-- Defined: `refusal`, 0 where the sheet is good, else the number of its refusal.
+use Prim.Native.Nat.{ℕ, zero, suc, _+_}
+use mathlib.Core.Bool.{Bool, true, false, not, cond, _&&_, _||_}
+use mathlib.Core.List.{List, [], _∷_}
+use lib.Dec.{eqb, ltb, leb}
+use lib.ListN.{length, take}
+use Rattle.deduction.specs.Entry.{parts}
+use Rattle.dag.specs.Sheet.{letters, countOf, traceLength, goalOf, offsetAt, lengthAt, traceAt, recordsFrom, beginAt, recordAt}
+use Rattle.dag.specs.Record.{kindOf, fits, decode}
+
+-- the number k where the test holds, else 0; of two, the first that isn't 0; of f 0 .. f (n - 1), the first that isn't 0
+abbrev pub when : Bool → ℕ → ℕ
+when b k = cond b k 0
+
+abbrev pub orElse : ℕ → ℕ → ℕ
+orElse zero b = b
+orElse (suc a) b = suc a
+
+unfoldable pub first : (ℕ → ℕ) → ℕ → ℕ
+first f zero = 0
+first f (suc n) = orElse (first f n) (f n)
+
+-- are two lists the same?
+unfoldable pub equal : List ℕ → List ℕ → Bool
+equal [] [] = true
+equal [] (y ∷ ys) = false
+equal (x ∷ xs) [] = false
+equal (x ∷ xs) (y ∷ ys) = eqb x y && equal xs ys
+
+-- is some number of the list i or more?
+unfoldable pub anyFrom : ℕ → List ℕ → Bool
+anyFrom i [] = false
+anyFrom i (j ∷ js) = leb i j || anyFrom i js
+
+-- 1 no sheet: "under 10 bytes, over 34,444, or the four letters differ"
+unfoldable pub noSheet : List ℕ → ℕ
+noSheet s = when (ltb (length s) 10 || (ltb 34444 (length s) || not (equal (take 4 s) letters))) 1
+
+-- 2 bad count: "n, h or goal outside its range": n 1 to 256, h 0 to 256, goal 0 to n - 1
+unfoldable pub badCount : List ℕ → ℕ
+badCount s = when (ltb (countOf s) 1 || (ltb 256 (countOf s) || (ltb 256 (traceLength s) || leb (countOf s) (goalOf s)))) 2
+
+-- 3 short list: "fewer than 10 + 4n + 2h bytes"
+unfoldable pub shortList : List ℕ → ℕ
+shortList s = when (ltb (length s) (recordsFrom s)) 3
+
+-- 4 bad pair: "length 0, an offset other than where the last record ended (or records begin), an end past the sheet, or the last end
+-- before the sheet's end"
+unfoldable pub badPair : List ℕ → ℕ → ℕ
+badPair s i = when (eqb (lengthAt s i) 0 || (not (eqb (offsetAt s i) (beginAt s i)) || ltb (length s) (offsetAt s i + lengthAt s i))) 4
+
+unfoldable pub badPairs : List ℕ → ℕ
+badPairs s = orElse (first (badPair s) (countOf s)) (when (ltb (beginAt s (countOf s)) (length s)) 4)
+
+-- 5 bad record: "kind over 4 or a length its kind lacks". 6 forward: "an entry number in a record (an atom's number is none) not below the
+-- record's own". "records are taken entry by entry, 5 before 6 in each"
+unfoldable pub badRecord : ℕ → List ℕ → ℕ
+badRecord i r = orElse (when (not (fits (kindOf r) (length r))) 5) (when (anyFrom i (parts (decode r))) 6)
+
+unfoldable pub badRecords : List ℕ → ℕ
+badRecords s = first (λ i. badRecord i (recordAt s i)) (countOf s)
+
+-- 7 not listed: "a heard number of n or more"
+unfoldable pub notListed : List ℕ → ℕ
+notListed s = first (λ k. when (leb (countOf s) (traceAt s k)) 7) (traceLength s)
+
+-- "Order: by number, except that records are taken entry by entry, 5 before 6 in each"
+unfoldable pub refusal : List ℕ → ℕ
+refusal s = orElse (noSheet s) (orElse (badCount s) (orElse (shortList s) (orElse (badPairs s) (orElse (badRecords s) (notListed s)))))

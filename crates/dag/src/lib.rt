@@ -1,0 +1,42 @@
+// A sheet's bytes: the term DAG of document 01. Which byte slices are refused and why, and readers of a good one.
+ghost use mathlib.Core.Path.{_≡_};
+ghost use Prim.Native.Nat.{ℕ, _+_, _*_, _≤_, _<_};
+ghost use lib.ListN.{length, take, drop};
+ghost use Rattle.dag.specs.Sheet.{numberAt, countOf, traceLength, goalOf, offsetAt, lengthAt, traceAt, beginAt, recordAt};
+ghost use Rattle.dag.specs.Record.{kindOf, fits};
+ghost use Rattle.dag.specs.Refusal.{refusal};
+ghost use Rattle.dag.specs.Code.{codeOf};
+
+// Document 01's ten refusals, and none.
+pub enum Refusal {
+    Nothing,
+    NoSheet,
+    BadCount,
+    ShortList,
+    BadPair,
+    BadRecord,
+    Forward,
+    NotListed,
+    PastTheLog,
+    OverBudget,
+    NoSpace,
+}
+
+// Document 01's number of a refusal; 0 for none.
+pub fn number(r: Refusal) -> u32
+    ensures { λ n. ⌜ n ≡ codeOf r ⌝ }
+{
+    match r {
+        Refusal::Nothing => 0,
+        Refusal::NoSheet => 1,
+        Refusal::BadCount => 2,
+        Refusal::ShortList => 3,
+        Refusal::BadPair => 4,
+        Refusal::BadRecord => 5,
+        Refusal::Forward => 6,
+        Refusal::NotListed => 7,
+        Refusal::PastTheLog => 8,
+        Refusal::OverBudget => 9,
+        Refusal::NoSpace => 10,
+    }
+}
