@@ -1,0 +1,5 @@
+pub mod Coding
+pub mod Pieces
+pub mod Distinct
+pub mod Terms
+pub mod Exactness
