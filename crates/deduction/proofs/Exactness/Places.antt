@@ -12,7 +12,7 @@ use Rattle.bitset.specs.Set.{member}
 use Rattle.bitset.proofs.Laws.Member.{member-empty}
 use Rattle.deduction.specs.Term.{Term, 𝟎, atom, pair, enc, sumOf}
 use Rattle.deduction.specs.Entry.{Entry, Zero, Atom, Pair, Enc, Sum, build, parts, Downward}
-use Rattle.deduction.proofs.Coding.{bit, bit-only, member-either, place, code, code-zero, code-atom, code-pair, code-enc, code-sum}
+use Rattle.deduction.proofs.Coding.{bit, bit-only, member-either, place, place-same, code, code-zero, code-atom, code-pair, code-enc, code-sum}
 
 abbrev pub PlaceOf : (ℕ → Term) → Entry → ℕ → Type 0
 PlaceOf t Zero p = ⊥
@@ -86,3 +86,33 @@ module _ (t : ℕ → Term) (e : ℕ → Entry) (n : ℕ) (down : Downward e n) 
 
   pub entry-places : (i : ℕ) → i < n → (p : ℕ) → member (code (t i)) p ≡ true → OnSheet t e n p
   entry-places i h p m = places-below (suc i) i (omega arith) h p m
+
+  -- an entry with a pair's place is a pair, and its parts have the codes of the place
+  pub pair-at : (i x y : ℕ) → i < n → PlaceOf t (e i) (place 1 x y)
+    → (l r : ℕ) × (l < n) × (r < n) × (code (t l) ≡ x) × (code (t r) ≡ y) × (t i ≡ pair (t l) (t r))
+  unfolding build parts
+  pair-at i x y h = go (e i) refl
+    where
+      go : (d : Entry) → e i ≡ d → PlaceOf t d (place 1 x y) → (l r : ℕ) × (l < n) × (r < n) × (code (t l) ≡ x) × (code (t r) ≡ y) × (t i ≡ pair (t l) (t r))
+      go Zero q s = absurd s
+      go (Atom a) q s = absurd (omega (arith, place-same _ _ _ _ _ _ s .0))
+      go (Pair l r) q s = let p = place-same _ _ _ _ _ _ s in
+          let lower : (j : ℕ) → List·Memᴰ j (l ∷ r ∷ []) → j < i = λ j m. down i j h (subst (λ (d : Entry). List·Memᴰ j (parts d)) (sym q) m) in
+          (l, r, omega (arith, lower l (List·Memᴰ·head refl)), omega (arith, lower r (List·Memᴰ·tail (List·Memᴰ·head refl))), p .1, p .2, built i h ∙ ap (build t) q)
+      go (Enc m k) q s = absurd (omega (arith, place-same _ _ _ _ _ _ s .0))
+      go (Sum items) q s = absurd s
+
+  -- an entry with an encryption's place is an encryption, and its parts have the codes of the place
+  pub enc-at : (i x y : ℕ) → i < n → PlaceOf t (e i) (place 2 x y)
+    → (m k : ℕ) × (m < n) × (k < n) × (code (t m) ≡ x) × (code (t k) ≡ y) × (t i ≡ enc (t m) (t k))
+  unfolding build parts
+  enc-at i x y h = go (e i) refl
+    where
+      go : (d : Entry) → e i ≡ d → PlaceOf t d (place 2 x y) → (m k : ℕ) × (m < n) × (k < n) × (code (t m) ≡ x) × (code (t k) ≡ y) × (t i ≡ enc (t m) (t k))
+      go Zero q s = absurd s
+      go (Atom a) q s = absurd (omega (arith, place-same _ _ _ _ _ _ s .0))
+      go (Pair l r) q s = absurd (omega (arith, place-same _ _ _ _ _ _ s .0))
+      go (Enc m k) q s = let p = place-same _ _ _ _ _ _ s in
+          let lower : (j : ℕ) → List·Memᴰ j (m ∷ k ∷ []) → j < i = λ j r. down i j h (subst (λ (d : Entry). List·Memᴰ j (parts d)) (sym q) r) in
+          (m, k, omega (arith, lower m (List·Memᴰ·head refl)), omega (arith, lower k (List·Memᴰ·tail (List·Memᴰ·head refl))), p .1, p .2, built i h ∙ ap (build t) q)
+      go (Sum items) q s = absurd s
