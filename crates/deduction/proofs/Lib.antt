@@ -3,3 +3,4 @@ pub mod Pieces
 pub mod Distinct
 pub mod Terms
 pub mod Exactness
+pub mod Examples

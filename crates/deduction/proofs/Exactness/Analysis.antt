@@ -2,7 +2,7 @@
 -- Shown: both parts of a pair in `Synth` are in it, and so is the message of an encryption in it whose key is in it; so every term held by a
 -- derivation whose start lies in `Synth` has its code there. Assumes nothing.
 use mathlib.Core.Path.{_≡_, refl, sym, ap, _∙_, subst}
-use mathlib.Core.Logic.{_⊎_, inl, inr, ⊎-elim, by-cases}
+use mathlib.Core.Logic.{⊎-elim, by-cases}
 use mathlib.Core.List.{List, [], _∷_, List·Memᴰ, List·Memᴰ·head, List·Memᴰ·tail, List·Memᴰ·cases-cons}
 use Prim.Native.Nat.{ℕ, _<_}
 use native.Mathlib.Omega.{arith}
@@ -36,32 +36,36 @@ module _ (t : ℕ → Term) (e : ℕ → Entry) (n : ℕ) (down : Downward e n) 
     where
       found : OnSheet t e n (place 1 x y) → Synth t e n G x × Synth t e n G y
       found o = let (l, r, hl, hr, cl, cr, ti) = pair-at t e n down built (o .0) x y (o .1) (o .2) in
-          let g : G (o .0) = placed-gained (place 1 x y) o s in let like : t (o .0) ≈ pair (t l) (t r) = by-code (ap code ti) in
-          (subst (Synth t e n G) cl (Synth.entry l hl (closed .first (o .0) l (t r) (o .1) hl g like)), subst (Synth t e n G) cr (Synth.entry r hr (closed .second (o .0) r (t l) (o .1) hr g like)))
+          let g : G (o .0) = placed-gained (place 1 x y) o s in let like : t (o .0) ≈ pair (t l) (t r) = by-code (ap code ti) in (
+            subst (Synth t e n G) cl (Synth.entry l hl (closed .first (o .0) l (t r) (o .1) hl g like)),
+            subst (Synth t e n G) cr (Synth.entry r hr (closed .second (o .0) r (t l) (o .1) hr g like)),
+          )
 
   synth-enc : (x y : ℕ) → Synth t e n G (bit (place 2 x y)) → Synth t e n G y → Synth t e n G x
   synth-enc x y s key = by-cases (onSheet-decidable t e n (place 2 x y)) found (λ h. made-enc t e n G x y (synth-made t e n down built G closed (place 2 x y) h s) refl)
     where
       found : OnSheet t e n (place 2 x y) → Synth t e n G x
       found o = let (m, k, hm, hk, cm, ck, ti) = enc-at t e n down built (o .0) x y (o .1) (o .2) in
-          subst (Synth t e n G) cm (Synth.entry m hm (closed .decrypt (o .0) m k (o .1) hm hk (placed-gained (place 2 x y) o s) (synth-gained t e n down built G closed k hk (subst (Synth t e n G) (sym ck) key)) (by-code (ap code ti))))
+          let key-gained : G k = synth-gained t e n down built G closed k hk (subst (Synth t e n G) (sym ck) key) in
+          subst (Synth t e n G) cm
+          (Synth.entry m hm (closed .decrypt (o .0) m k (o .1) hm hk (placed-gained (place 2 x y) o s) key-gained (by-code (ap code ti))))
 
   -- every term in the list has its code in Synth
-  abbrev Made-up : List Term → Type 0
-  Made-up g = (u : Term) → List·Memᴰ u g → Synth t e n G (code u)
+  abbrev AllSynth : List Term → Type 0
+  AllSynth g = (u : Term) → List·Memᴰ u g → Synth t e n G (code u)
 
-  held : {g : List Term} → Made-up g → (u : Term) → Holds g u → Synth t e n G (code u)
+  held : {g : List Term} → AllSynth g → (u : Term) → Holds g u → Synth t e n G (code u)
   held all u h = subst (Synth t e n G) (same-code (h .2)) (all (h .0) (h .1))
 
-  with-newest : {g : List Term} {a : Term} → Synth t e n G (code a) → Made-up g → Made-up (a ∷ g)
+  with-newest : {g : List Term} {a : Term} → Synth t e n G (code a) → AllSynth g → AllSynth (a ∷ g)
   with-newest new all u m = ⊎-elim (λ q. subst (λ (x : Term). Synth t e n G (code x)) (sym q) new) (all u) (List·Memᴰ·cases-cons m)
 
-  sum-synth : (ts : List Term) → Made-up ts → Synth t e n G (code (sumOf ts))
+  sum-synth : (ts : List Term) → AllSynth ts → Synth t e n G (code (sumOf ts))
   unfolding sumOf
   sum-synth [] all = subst (Synth t e n G) (sym code-zero) Synth.none
   sum-synth (u ∷ us) all = subst (Synth t e n G) (sym (code-sum u (sumOf us))) (Synth.sum (all u (List·Memᴰ·head refl)) (sum-synth us (λ v m. all v (List·Memᴰ·tail m))))
 
-  derivation-synth : {start g : List Term} → Made-up start → Derivation start g → Made-up g
+  derivation-synth : {start g : List Term} → AllSynth start → Derivation start g → AllSynth g
   derivation-synth from begin = from
   derivation-synth from (first {a = a} {b = b} d h) = let all = derivation-synth from d in
       with-newest (synth-pair (code a) (code b) (subst (Synth t e n G) (code-pair a b) (held all (pair a b) h)) .0) all

@@ -2,17 +2,16 @@
 -- Defined: `PlaceOf t d p`, the entry d is no zero and no sum, and has the place p; `OnSheet t e n p`, one of the first n entries has it.
 -- Shown: being on the sheet is decidable, and the code of each entry's term has only such places. Assumes nothing.
 use mathlib.Core.Path.{_≡_, refl, sym, ap, _∙_, subst}
-use mathlib.Core.Bool.{Bool, true, false, true≢false}
-use mathlib.Core.Logic.{_⊎_, inl, inr, ⊎-elim, by-cases}
+use mathlib.Core.Bool.{true}
+use mathlib.Core.Logic.{⊎-elim, by-cases}
 use mathlib.Core.List.{List, [], _∷_, map, List·Memᴰ, List·Memᴰ·head, List·Memᴰ·tail, Memᴰ·of-map}
 use Prim.Native.Nat.{ℕ, zero, suc, _<_}
 use native.Mathlib.Decide.{ℕ-discrete}
 use native.Mathlib.Omega.{arith}
 use Rattle.bitset.specs.Set.{member}
-use Rattle.bitset.proofs.Laws.Member.{member-empty}
-use Rattle.deduction.specs.Term.{Term, 𝟎, atom, pair, enc, sumOf}
+use Rattle.deduction.specs.Term.{Term, pair, enc, sumOf}
 use Rattle.deduction.specs.Entry.{Entry, Zero, Atom, Pair, Enc, Sum, build, parts, Downward}
-use Rattle.deduction.proofs.Coding.{bit, bit-only, member-either, place, place-same, code, code-zero, code-atom, code-pair, code-enc, code-sum}
+use Rattle.deduction.proofs.Coding.{bit, bit-only, place, place-same, code, code-atom, code-pair, code-enc, zero-none, sum-either}
 
 abbrev pub PlaceOf : (ℕ → Term) → Entry → ℕ → Type 0
 PlaceOf t Zero p = ⊥
@@ -52,11 +51,9 @@ onSheet-decidable t e (suc n) p = go (placeOf-decidable t (e n) p) (onSheet-deci
 -- a member of a sum's code is a member of an item's
 pub member-some : (ts : List Term) (p : ℕ) → member (code (sumOf ts)) p ≡ true → (u : Term) × List·Memᴰ u ts × (member (code u) p ≡ true)
 unfolding sumOf
-member-some [] p h = absurd (true≢false (sym h ∙ ap (λ (s : ℕ). member s p) code-zero ∙ member-empty p))
+member-some [] p h = absurd (zero-none p h)
 member-some (t ∷ ts) p h =
-    ⊎-elim (λ (q : member (code t) p ≡ true). (t, List·Memᴰ·head refl, q))
-    (λ (q : member (code (sumOf ts)) p ≡ true). let r = member-some ts p q in (r .0, List·Memᴰ·tail (r .1), r .2))
-    (member-either (code t) (code (sumOf ts)) p (ap (λ (s : ℕ). member s p) (sym (code-sum t (sumOf ts))) ∙ h))
+    ⊎-elim (λ q. (t, List·Memᴰ·head refl, q)) (λ q. let (u, m, r) = member-some ts p q in (u, List·Memᴰ·tail m, r)) (sum-either t (sumOf ts) p h)
 
 -- the first n entries refer downwards, and each term is built from the terms of its entry's parts
 module _ (t : ℕ → Term) (e : ℕ → Entry) (n : ℕ) (down : Downward e n) (built : (i : ℕ) → i < n → t i ≡ build t (e i)) where
@@ -73,7 +70,7 @@ module _ (t : ℕ → Term) (e : ℕ → Entry) (n : ℕ) (down : Downward e n) 
 
       go : ((j : ℕ) → j < b → j < n → (q : ℕ) → member (code (t j)) q ≡ true → OnSheet t e n q)
           → (d : Entry) → e i ≡ d → member (code (build t d)) p ≡ true → OnSheet t e n p
-      go below Zero q r = absurd (true≢false (sym r ∙ ap (λ (s : ℕ). member s p) code-zero ∙ member-empty p))
+      go below Zero q r = absurd (zero-none p r)
       go below (Atom a) q r = here (Atom a) q (only _ _ (code-atom a) r)
       go below (Pair x y) q r = here (Pair x y) q (only _ _ (code-pair (t x) (t y)) r)
       go below (Enc x y) q r = here (Enc x y) q (only _ _ (code-enc (t x) (t y)) r)
@@ -89,7 +86,7 @@ module _ (t : ℕ → Term) (e : ℕ → Entry) (n : ℕ) (down : Downward e n) 
 
   -- an entry with a pair's place is a pair, and its parts have the codes of the place
   pub pair-at : (i x y : ℕ) → i < n → PlaceOf t (e i) (place 1 x y)
-    → (l r : ℕ) × (l < n) × (r < n) × (code (t l) ≡ x) × (code (t r) ≡ y) × (t i ≡ pair (t l) (t r))
+      → (l r : ℕ) × (l < n) × (r < n) × (code (t l) ≡ x) × (code (t r) ≡ y) × (t i ≡ pair (t l) (t r))
   unfolding build parts
   pair-at i x y h = go (e i) refl
     where
@@ -104,7 +101,7 @@ module _ (t : ℕ → Term) (e : ℕ → Entry) (n : ℕ) (down : Downward e n) 
 
   -- an entry with an encryption's place is an encryption, and its parts have the codes of the place
   pub enc-at : (i x y : ℕ) → i < n → PlaceOf t (e i) (place 2 x y)
-    → (m k : ℕ) × (m < n) × (k < n) × (code (t m) ≡ x) × (code (t k) ≡ y) × (t i ≡ enc (t m) (t k))
+      → (m k : ℕ) × (m < n) × (k < n) × (code (t m) ≡ x) × (code (t k) ≡ y) × (t i ≡ enc (t m) (t k))
   unfolding build parts
   enc-at i x y h = go (e i) refl
     where
