@@ -1,0 +1,68 @@
+-- Exactness: steps within the entries of a sheet lose nothing against derivations over terms of any size.
+-- Shown: `exactness`, a set of entries closed under the six rules within the sheet, with the start, has every entry that any derivation
+-- from the start holds; `exactness-from`, the same for a start of any terms that can be put together from such a set; `reach-exact`, the
+-- entries reached within the sheet are exactly the derivable ones; `kept-underivable`, a way to show that an entry isn't derivable.
+-- Assumes nothing: no excluded middle, and the set of entries may be any predicate.
+use mathlib.Core.Path.{subst}
+use mathlib.Core.Logic.{_↔_}
+use mathlib.Core.List.{List, map, List·Memᴰ, Memᴰ·of-map}
+use Prim.Native.Nat.{ℕ, _<_}
+use lib.Bits.{bitXor}
+use Rattle.deduction.specs.Term.{Term}
+use Rattle.deduction.specs.Entry.{Entry, termAt, Downward}
+use Rattle.deduction.specs.Derivation.{Holds, Derivation, Derivable}
+use Rattle.deduction.specs.Within.{Closed, Reach}
+use Rattle.deduction.proofs.Coding.{code}
+use Rattle.deduction.proofs.Terms.{termAt-build}
+use Synthesis.{Synth}
+use Analysis.{derivation-gained}
+use Invariant.{Kept, kept-closed}
+pub use Derive.{reach-derivable}
+pub mod Places
+pub mod Synthesis
+pub mod Analysis
+pub mod Derive
+pub mod Invariant
+
+-- the general form: the start may be any terms that can be put together from G, and from atoms that aren't on the sheet
+pub exactness-from : (e : ℕ → Entry) (n : ℕ) → Downward e n → (G : ℕ → Type 0) → Closed (termAt e) n G
+    → (start : List Term) → ((u : Term) → List·Memᴰ u start → Synth (termAt e) e n G (code u))
+    → (g : List Term) → Derivation start g → (i : ℕ) → i < n → Holds g (termAt e i) → G i
+exactness-from e n down G closed start from g d = derivation-gained (termAt e) e n down (termAt-build e n down) G closed from d
+
+pub exactness : (e : ℕ → Entry) (n : ℕ) → Downward e n → (G : ℕ → Type 0) → Closed (termAt e) n G
+    → (start : List ℕ) → ((i : ℕ) → List·Memᴰ i start → (i < n) × G i)
+    → (g : List Term) → Derivation (map (termAt e) start) g → (i : ℕ) → i < n → Holds g (termAt e i) → G i
+exactness e n down G closed start from = exactness-from e n down G closed (map (termAt e) start) made
+  where
+    made : (u : Term) → List·Memᴰ u (map (termAt e) start) → Synth (termAt e) e n G (code u)
+    made u m =
+        let (j, q, s) = Memᴰ·of-map (termAt e) start m in
+        subst (λ (x : Term). Synth (termAt e) e n G (code x)) s (Synth.entry j (from j q .0) (from j q .1))
+
+-- what is reached within the sheet is closed
+reach-closed : (t : ℕ → Term) (n : ℕ) (start : List ℕ) → Closed t n (Reach t n start)
+reach-closed t n start =
+    record {
+      first = λ i j b hi hj r e. Reach.first b hi hj r e;
+      second = λ i j a hi hj r e. Reach.second a hi hj r e;
+      decrypt = λ i j k hi hj hk r s e. Reach.decrypt hi hj hk r s e;
+      join = λ i j k hi hj hk r s e. Reach.join hi hj hk r s e;
+      encrypt = λ i j k hi hj hk r s e. Reach.encrypt hi hj hk r s e;
+      sum = λ i js hi r e. Reach.sum js hi (λ j m. r j m .0) (λ j m. r j m .1) e;
+    }
+
+pub reach-exact : (e : ℕ → Entry) (n : ℕ) → Downward e n → (start : List ℕ) → ((i : ℕ) → List·Memᴰ i start → i < n)
+    → (i : ℕ) → i < n → Reach (termAt e) n start i ↔ Derivable (map (termAt e) start) (termAt e i)
+reach-exact e n down start low i h = (
+  reach-derivable (termAt e) n start i,
+  λ (g, d, k). exactness e n down (Reach (termAt e) n start) (reach-closed (termAt e) n start) start (λ j m. (low j m, Reach.begin m)) g d i h k,
+)
+
+-- how to show that an entry is not derivable: a property that the start has and the rules on the sheet keep, and that the entry lacks
+pub kept-underivable : (e : ℕ → Entry) (n : ℕ) → Downward e n
+    → (P : ℕ → Type 0) → P 0 → ((v w : ℕ) → P v → P w → P (bitXor v w)) → ((i : ℕ) → i < n → Kept (termAt e) P (e i))
+    → (start : List ℕ) → ((i : ℕ) → List·Memᴰ i start → (i < n) × P (code (termAt e i)))
+    → (i : ℕ) → i < n → ¬ P (code (termAt e i)) → ¬ Derivable (map (termAt e) start) (termAt e i)
+kept-underivable e n down P none add kept start from i h lacks (g, d, k) =
+    lacks (exactness e n down (λ j. P (code (termAt e j))) (kept-closed (termAt e) e n down (termAt-build e n down) P none add kept) start from g d i h k)

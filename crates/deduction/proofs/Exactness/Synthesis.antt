@@ -1,0 +1,166 @@
+-- What can be put together from a set G of entries, closed under the six rules within the sheet.
+-- Defined: `Synth`, the codes made from G by sums, pairs and encryptions, and from atoms that aren't on the sheet; `Sums`, those made by
+-- sums alone; `Split`, a code as a sum of entries of G and of places that aren't on the sheet.
+-- Shown: every code of `Synth` splits so, and an entry whose code is one of them is in G. Assumes nothing.
+use mathlib.Core.Path.{_≡_, refl, sym, ap, ap₂, _∙_, subst}
+use mathlib.Core.Bool.{Bool, true, false}
+use mathlib.Core.Logic.{⊎-elim, by-cases}
+use mathlib.Core.List.{List, [], _∷_, _++_, map, List·Memᴰ, List·Memᴰ·not-nil, List·Memᴰ·eq-of-singleton, List·Memᴰ·append-cases, Memᴰ·of-map}
+use Prim.Native.Nat.{ℕ, _<_}
+use lib.Bits.{bitXor, xor-comm, xor-zero-l, xor-zero-r}
+use Rattle.bitset.specs.Set.{member}
+use Rattle.bitset.proofs.Laws.Member.{no-members, sum-assoc}
+use Rattle.deduction.specs.Term.{Term, 𝟎, sumOf}
+use Rattle.deduction.specs.Entry.{Entry, build, Downward}
+use Rattle.deduction.specs.Within.{Closed}
+use Rattle.deduction.proofs.Coding.{bit, bit-own, bit-only, empty-none, member-either, member-one, place, code, code-zero, code-sum}
+use Rattle.deduction.proofs.Pieces.{by-code}
+use Rattle.deduction.proofs.Exactness.Places.{PlaceOf, OnSheet, place-code, onSheet-decidable, member-some, entry-places, pair-at, enc-at}
+
+pub data Synth (t : ℕ → Term) (e : ℕ → Entry) (n : ℕ) (G : ℕ → Type 0) : ℕ → Type 0 where
+  entry : (i : ℕ) → i < n → G i → Synth t e n G (code (t i))
+  -- an atom that no entry has
+  own : (a : ℕ) → ¬ OnSheet t e n (place 0 a 0) → Synth t e n G (bit (place 0 a 0))
+  none : Synth t e n G 0
+  sum : {v w : ℕ} → Synth t e n G v → Synth t e n G w → Synth t e n G (bitXor v w)
+  join : {x y : ℕ} → Synth t e n G x → Synth t e n G y → Synth t e n G (bit (place 1 x y))
+  encrypt : {x y : ℕ} → Synth t e n G x → Synth t e n G y → Synth t e n G (bit (place 2 x y))
+
+-- the places of what is made off the sheet
+pub data Made (t : ℕ → Term) (e : ℕ → Entry) (n : ℕ) (G : ℕ → Type 0) : ℕ → Type 0 where
+  own : (a : ℕ) → Made t e n G (place 0 a 0)
+  join : {x y : ℕ} → Synth t e n G x → Synth t e n G y → Made t e n G (place 1 x y)
+  encrypt : {x y : ℕ} → Synth t e n G x → Synth t e n G y → Made t e n G (place 2 x y)
+
+-- the sums of entries of G
+abbrev Sums : (ℕ → Term) → ℕ → (ℕ → Type 0) → ℕ → Type 0
+Sums t n G w = (js : List ℕ) × ((j : ℕ) → List·Memᴰ j js → (j < n) × G j) × (code (sumOf (map t js)) ≡ w)
+
+-- the places of `on` are on the sheet, those of `off` are not
+record Split (t : ℕ → Term) (e : ℕ → Entry) (n : ℕ) (G : ℕ → Type 0) (v : ℕ) : Type 0 where
+  on : ℕ
+  off : ℕ
+  sums : Sums t n G on
+  outside : (p : ℕ) → member off p ≡ true → (¬ OnSheet t e n p) × Made t e n G p
+  whole : bitXor on off ≡ v
+
+code-append : (t : ℕ → Term) (is js : List ℕ) → code (sumOf (map t (is ++ js))) ≡ bitXor (code (sumOf (map t is))) (code (sumOf (map t js)))
+unfolding sumOf
+code-append t [] js = sym (xor-zero-l (code (sumOf (map t js)))) ∙ ap (λ (x : ℕ). bitXor x (code (sumOf (map t js)))) (sym code-zero)
+code-append t (i ∷ is) js =
+    code-sum (t i) (sumOf (map t (is ++ js))) ∙ ap (bitXor (code (t i))) (code-append t is js)
+    ∙ sym (sum-assoc (code (t i)) (code (sumOf (map t is))) (code (sumOf (map t js))))
+    ∙ ap (λ (x : ℕ). bitXor x (code (sumOf (map t js)))) (sym (code-sum (t i) (sumOf (map t is))))
+
+regroup : (a b c d : ℕ) → bitXor (bitXor a b) (bitXor c d) ≡ bitXor (bitXor a c) (bitXor b d)
+regroup a b c d =
+    sum-assoc a b (bitXor c d) ∙ ap (bitXor a) (sym (sum-assoc b c d) ∙ ap (λ (x : ℕ). bitXor x d) (xor-comm b c) ∙ sum-assoc c b d) ∙ sym (sum-assoc a c (bitXor b d))
+
+module _ (t : ℕ → Term) (e : ℕ → Entry) (n : ℕ) (G : ℕ → Type 0) where
+  sums-none : Sums t n G 0
+  unfolding sumOf
+  sums-none = ([], λ j m. absurd (List·Memᴰ·not-nil m), code-zero)
+
+  sums-entry : (i : ℕ) → i < n → G i → Sums t n G (code (t i))
+  unfolding sumOf
+  sums-entry i h g = (
+    i ∷ [],
+    λ j m. subst (λ (x : ℕ). (x < n) × G x) (sym (List·Memᴰ·eq-of-singleton m)) (h, g),
+    code-sum (t i) 𝟎 ∙ ap (bitXor (code (t i))) code-zero ∙ xor-zero-r (code (t i)),
+  )
+
+  sums-sum : {v w : ℕ} → Sums t n G v → Sums t n G w → Sums t n G (bitXor v w)
+  sums-sum x y =
+      (x .0 ++ y .0, λ j m. ⊎-elim (x .1 j) (y .1 j) (List·Memᴰ·append-cases (x .0) m), code-append t (x .0) (y .0) ∙ ap₂ bitXor (x .2) (y .2))
+
+  -- a place that is not on the sheet, alone
+  split-off : (p : ℕ) → ¬ OnSheet t e n p → Made t e n G p → Split t e n G (bit p)
+  split-off p h m = record {
+    on = 0;
+    off = bit p;
+    sums = sums-none;
+    outside = λ q r. subst (λ (x : ℕ). (¬ OnSheet t e n x) × Made t e n G x) (bit-only p q r) (h, m);
+    whole = xor-zero-l (bit p);
+  }
+
+  -- a sum of entries of G
+  split-on : {v : ℕ} → Sums t n G v → Split t e n G v
+  split-on {v} s = record { on = v; off = 0; sums = s; outside = λ q r. absurd (empty-none q r); whole = xor-zero-r v }
+
+  split-sum : {v w : ℕ} → Split t e n G v → Split t e n G w → Split t e n G (bitXor v w)
+  split-sum x y = record {
+    on = bitXor (x .on) (y .on);
+    off = bitXor (x .off) (y .off);
+    sums = sums-sum (x .sums) (y .sums);
+    outside = λ p m. ⊎-elim (x .outside p) (y .outside p) (member-either (x .off) (y .off) p m);
+    whole = regroup (x .on) (y .on) (x .off) (y .off) ∙ ap₂ bitXor (x .whole) (y .whole);
+  }
+
+module _ (t : ℕ → Term) (e : ℕ → Entry) (n : ℕ) (down : Downward e n) (built : (i : ℕ) → i < n → t i ≡ build t (e i)) (G : ℕ → Type 0) (closed : Closed t n G) where
+  -- sums of entries have only places on the sheet
+  sums-places : {w : ℕ} → Sums t n G w → (p : ℕ) → member w p ≡ true → OnSheet t e n p
+  sums-places s p m =
+      let u = member-some (map t (s .0)) p (ap (λ (x : ℕ). member x p) (s .2) ∙ m) in let j = Memᴰ·of-map t (s .0) (u .1) in
+      entry-places t e n down built (j .0) (s .1 (j .0) (j .1) .0) p (ap (λ (x : Term). member (code x) p) (j .2) ∙ u .2)
+
+  -- a code that splits and has only places on the sheet is a sum of entries of G
+  split-sums : {v : ℕ} → ((p : ℕ) → member v p ≡ true → OnSheet t e n p) → Split t e n G v → Sums t n G v
+  split-sums {v} here s = subst (Sums t n G) (sym (xor-zero-r (s .on)) ∙ ap (bitXor (s .on)) none ∙ s .whole) (s .sums)
+    where
+      both : (p : ℕ) → member (s .off) p ≡ true → OnSheet t e n p
+      both p m =
+          ⊎-elim (λ (q : member (bitXor (s .off) (s .on)) p ≡ true). here p (ap (λ (x : ℕ). member x p) (sym (xor-comm (s .off) (s .on) ∙ s .whole)) ∙ q))
+          (sums-places (s .sums) p) (member-one (s .off) (s .on) p m)
+
+      never : (p : ℕ) (b : Bool) → member (s .off) p ≡ b → b ≡ false
+      never p true m = absurd (s .outside p m .0 (both p m))
+      never p false m = refl
+
+      none : 0 ≡ s .off
+      none = no-members (s .off) (λ p. never p (member (s .off) p) refl)
+
+  -- an entry whose code splits is in G
+  split-gained : (i : ℕ) → i < n → Split t e n G (code (t i)) → G i
+  split-gained i h s = let w = split-sums (entry-places t e n down built i h) s in closed .sum i (w .0) h (w .1) (by-code (sym (w .2)))
+
+  -- an entry of G with one place
+  split-entry : (i p : ℕ) → i < n → PlaceOf t (e i) p → G i → Split t e n G (bit p)
+  split-entry i p h s g = subst (Split t e n G) (ap code (built i h) ∙ place-code t (e i) p s) (split-on t e n G (sums-entry t e n G i h g))
+
+  -- a pair of two codes that split: it is an entry, then in G, or off the sheet
+  split-join : {x y : ℕ} → Made t e n G (place 1 x y) → Split t e n G x → Split t e n G y → Split t e n G (bit (place 1 x y))
+  split-join {x} {y} made sx sy = by-cases (onSheet-decidable t e n (place 1 x y)) found (λ h. split-off t e n G (place 1 x y) h made)
+    where
+      found : OnSheet t e n (place 1 x y) → Split t e n G (bit (place 1 x y))
+      found (i, h, s) = let (l, r, hl, hr, cl, cr, ti) = pair-at t e n down built i x y h s in
+          split-entry i (place 1 x y) h s
+          (closed .join i l r h hl hr (split-gained l hl (subst (Split t e n G) (sym cl) sx)) (split-gained r hr (subst (Split t e n G) (sym cr) sy))
+          (by-code (ap code ti)))
+
+  -- the same of an encryption
+  split-encrypt : {x y : ℕ} → Made t e n G (place 2 x y) → Split t e n G x → Split t e n G y → Split t e n G (bit (place 2 x y))
+  split-encrypt {x} {y} made sx sy = by-cases (onSheet-decidable t e n (place 2 x y)) found (λ h. split-off t e n G (place 2 x y) h made)
+    where
+      found : OnSheet t e n (place 2 x y) → Split t e n G (bit (place 2 x y))
+      found (i, h, s) = let (m, k, hm, hk, cm, ck, ti) = enc-at t e n down built i x y h s in
+          split-entry i (place 2 x y) h s
+          (closed .encrypt i m k h hm hk (split-gained m hm (subst (Split t e n G) (sym cm) sx)) (split-gained k hk (subst (Split t e n G) (sym ck) sy))
+          (by-code (ap code ti)))
+
+  synth-split : {v : ℕ} → Synth t e n G v → Split t e n G v
+  synth-split (entry i h g) = split-on t e n G (sums-entry t e n G i h g)
+  synth-split (own a h) = split-off t e n G (place 0 a 0) h (own a)
+  synth-split none = split-on t e n G (sums-none t e n G)
+  synth-split (sum x y) = split-sum t e n G (synth-split x) (synth-split y)
+  synth-split (join x y) = split-join (join x y) (synth-split x) (synth-split y)
+  synth-split (encrypt x y) = split-encrypt (encrypt x y) (synth-split x) (synth-split y)
+
+  -- an entry whose code can be put together is in G
+  pub synth-gained : (i : ℕ) → i < n → Synth t e n G (code (t i)) → G i
+  synth-gained i h s = split-gained i h (synth-split s)
+
+  -- a place off the sheet was made
+  pub synth-made : (p : ℕ) → ¬ OnSheet t e n p → Synth t e n G (bit p) → Made t e n G p
+  synth-made p h s = let w = synth-split s in
+      ⊎-elim (λ (m : member (w .on) p ≡ true). absurd (h (sums-places (w .sums) p m))) (λ (m : member (w .off) p ≡ true). w .outside p m .1)
+      (member-either (w .on) (w .off) p (ap (λ (x : ℕ). member x p) (w .whole) ∙ bit-own p))

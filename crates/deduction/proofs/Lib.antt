@@ -1,0 +1,6 @@
+pub mod Coding
+pub mod Pieces
+pub mod Distinct
+pub mod Terms
+pub mod Exactness
+pub mod Examples
