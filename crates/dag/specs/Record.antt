@@ -9,7 +9,7 @@ use Rattle.deduction.specs.Entry.{Entry, Zero, Atom, Pair, Enc, Sum}
 use Rattle.dag.specs.Sheet.{numberAt, recordAt, listed}
 
 -- the kind byte
-unfoldable pub kindOf : List ℕ → ℕ
+abbrev pub kindOf : List ℕ → ℕ
 kindOf r = getD r 0 0
 
 -- "Lengths are thus 1, 3, 5, 5 and 1 + 2k for k items" of kinds 0 to 4, a sum having "0 to 64 items"; no other kind has a length
@@ -22,10 +22,10 @@ fits (suc (suc (suc (suc zero)))) len = eqb (len % 2) 1 && leb len 129
 fits (suc (suc (suc (suc (suc k))))) len = false
 
 -- the number of a sum's items, and the items
-unfoldable pub itemCount : List ℕ → ℕ
+abbrev pub itemCount : List ℕ → ℕ
 itemCount r = (length r - 1) / 2
 
-unfoldable pub itemAt : List ℕ → ℕ → ℕ
+abbrev pub itemAt : List ℕ → ℕ → ℕ
 itemAt r j = numberAt r (1 + 2 * j)
 
 -- "A record is its kind byte and then: nothing (zero); the atom's number; left and right; message and key; or the sum's items"
@@ -36,9 +36,9 @@ decodeAs (suc (suc zero)) r = Pair (numberAt r 1) (numberAt r 3)
 decodeAs (suc (suc (suc zero))) r = Enc (numberAt r 1) (numberAt r 3)
 decodeAs (suc (suc (suc (suc k)))) r = Sum (listed (itemAt r) (itemCount r))
 
-unfoldable pub decode : List ℕ → Entry
+abbrev pub decode : List ℕ → Entry
 decode r = decodeAs (kindOf r) r
 
 -- entry i of a sheet
-unfoldable pub entryAt : List ℕ → ℕ → Entry
+abbrev pub entryAt : List ℕ → ℕ → Entry
 entryAt s i = decode (recordAt s i)

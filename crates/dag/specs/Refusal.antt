@@ -6,8 +6,8 @@ use mathlib.Core.List.{List, [], _∷_}
 use lib.Dec.{eqb, ltb, leb}
 use lib.ListN.{length, take}
 use Rattle.deduction.specs.Entry.{parts}
-use Rattle.dag.specs.Sheet.{letters, countOf, traceLength, goalOf, offsetAt, lengthAt, traceAt, recordsFrom, beginAt, recordAt}
-use Rattle.dag.specs.Record.{kindOf, fits, decode}
+use Rattle.dag.specs.Sheet.{letters, countOf, traceLength, goalOf, offsetAt, lengthAt, traceAt, recordsFrom, beginAt, recordAt, listed}
+use Rattle.dag.specs.Record.{kindOf, fits, itemCount, itemAt, decode}
 
 -- the number k where the test holds, else 0; of two, the first that isn't 0; of f 0 .. f (n - 1), the first that isn't 0
 abbrev pub when : Bool → ℕ → ℕ
@@ -53,17 +53,27 @@ badPair s i = when (eqb (lengthAt s i) 0 || (not (eqb (offsetAt s i) (beginAt s 
 unfoldable pub badPairs : List ℕ → ℕ
 badPairs s = orElse (first (badPair s) (countOf s)) (when (ltb (beginAt s (countOf s)) (length s)) 4)
 
+-- 6 for a sum's record: an item not below i
+abbrev pub forwardItems : ℕ → List ℕ → ℕ
+forwardItems i r = when (anyFrom i (listed (itemAt r) (itemCount r))) 6
+
 -- 5 bad record: "kind over 4 or a length its kind lacks". 6 forward: "an entry number in a record (an atom's number is none) not below the
 -- record's own". "records are taken entry by entry, 5 before 6 in each"
 unfoldable pub badRecord : ℕ → List ℕ → ℕ
 badRecord i r = orElse (when (not (fits (kindOf r) (length r))) 5) (when (anyFrom i (parts (decode r))) 6)
 
+abbrev pub badRecordAt : List ℕ → ℕ → ℕ
+badRecordAt s i = badRecord i (recordAt s i)
+
 unfoldable pub badRecords : List ℕ → ℕ
-badRecords s = first (λ i. badRecord i (recordAt s i)) (countOf s)
+badRecords s = first (badRecordAt s) (countOf s)
 
 -- 7 not listed: "a heard number of n or more"
+abbrev pub notListedAt : List ℕ → ℕ → ℕ
+notListedAt s k = when (leb (countOf s) (traceAt s k)) 7
+
 unfoldable pub notListed : List ℕ → ℕ
-notListed s = first (λ k. when (leb (countOf s) (traceAt s k)) 7) (traceLength s)
+notListed s = first (notListedAt s) (traceLength s)
 
 -- "Order: by number, except that records are taken entry by entry, 5 before 6 in each"
 unfoldable pub refusal : List ℕ → ℕ

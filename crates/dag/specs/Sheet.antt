@@ -13,30 +13,30 @@ abbrev pub letters : List ℕ
 letters = 0x53 ∷ 0x48 ∷ 0x54 ∷ 0x31 ∷ []
 
 -- offset 4: n, the number of entries
-unfoldable pub countOf : List ℕ → ℕ
+abbrev pub countOf : List ℕ → ℕ
 countOf s = numberAt s 4
 
 -- offset 6: h, the number of heard messages
-unfoldable pub traceLength : List ℕ → ℕ
+abbrev pub traceLength : List ℕ → ℕ
 traceLength s = numberAt s 6
 
 -- offset 8: the goal's entry number
-unfoldable pub goalOf : List ℕ → ℕ
+abbrev pub goalOf : List ℕ → ℕ
 goalOf s = numberAt s 8
 
 -- offset 10: "n pairs: offset, then length, of each record"
-unfoldable pub offsetAt : List ℕ → ℕ → ℕ
+abbrev pub offsetAt : List ℕ → ℕ → ℕ
 offsetAt s i = numberAt s (10 + 4 * i)
 
-unfoldable pub lengthAt : List ℕ → ℕ → ℕ
+abbrev pub lengthAt : List ℕ → ℕ → ℕ
 lengthAt s i = numberAt s (12 + 4 * i)
 
 -- offset 10 + 4n: "h entry numbers, in the order heard"
-unfoldable pub traceAt : List ℕ → ℕ → ℕ
+abbrev pub traceAt : List ℕ → ℕ → ℕ
 traceAt s k = numberAt s (10 + 4 * countOf s + 2 * k)
 
 -- offset 10 + 4n + 2h: where the records begin
-unfoldable pub recordsFrom : List ℕ → ℕ
+abbrev pub recordsFrom : List ℕ → ℕ
 recordsFrom s = 10 + 4 * countOf s + 2 * traceLength s
 
 -- where the record before i ended, or the records begin
@@ -45,7 +45,7 @@ beginAt s zero = recordsFrom s
 beginAt s (suc i) = offsetAt s i + lengthAt s i
 
 -- "the part of the caller's sheet that its pair names"
-unfoldable pub recordAt : List ℕ → ℕ → List ℕ
+abbrev pub recordAt : List ℕ → ℕ → List ℕ
 recordAt s i = take (lengthAt s i) (drop (offsetAt s i) s)
 
 -- f 0, f 1, .., f (n - 1)
@@ -54,5 +54,5 @@ listed f zero = []
 listed f (suc n) = listed f n ++ (f n ∷ [])
 
 -- the heard entries before a cut (document 01: "A cut c from 0 to h takes the first c")
-unfoldable pub traceOf : List ℕ → ℕ → List ℕ
+abbrev pub traceOf : List ℕ → ℕ → List ℕ
 traceOf s c = listed (traceAt s) c

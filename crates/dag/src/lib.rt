@@ -7,6 +7,10 @@ ghost use Rattle.dag.specs.Record.{kindOf, fits};
 ghost use Rattle.dag.specs.Refusal.{refusal};
 ghost use Rattle.dag.specs.Code.{codeOf};
 
+pub mod sheet;
+pub mod record;
+mod faults;
+
 // Document 01's ten refusals, and none.
 pub enum Refusal {
     Nothing,
@@ -23,7 +27,7 @@ pub enum Refusal {
 }
 
 // Document 01's number of a refusal; 0 for none.
-pub fn number(r: Refusal) -> u32
+pub fn code(r: Refusal) -> u32
     ensures { λ n. ⌜ n ≡ codeOf r ⌝ }
 {
     match r {
@@ -39,4 +43,31 @@ pub fn number(r: Refusal) -> u32
         Refusal::OverBudget => 9,
         Refusal::NoSpace => 10,
     }
+}
+
+// The refusal that a number from 0 to 10 names.
+fn named(code: u8) -> Refusal
+    requires { ⌜ code ≤ 10 ⌝ }
+    ensures { λ r. ⌜ codeOf r ≡ code ⌝ }
+{
+    match code {
+        0 => Refusal::Nothing,
+        1 => Refusal::NoSheet,
+        2 => Refusal::BadCount,
+        3 => Refusal::ShortList,
+        4 => Refusal::BadPair,
+        5 => Refusal::BadRecord,
+        6 => Refusal::Forward,
+        7 => Refusal::NotListed,
+        8 => Refusal::PastTheLog,
+        9 => Refusal::OverBudget,
+        _ => Refusal::NoSpace,
+    }
+}
+
+// Is this slice a good sheet? Any slice of bytes gets its refusal by the grounding table, rows 1 to 7, or none.
+pub fn validate(s: &[u8]) -> Refusal
+    ensures { λ r. ⌜ codeOf r ≡ refusal (now (s .entry)) ⌝ }
+{
+    named(faults::refused(s))
 }

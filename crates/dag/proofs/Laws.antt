@@ -1,0 +1,4 @@
+pub mod Sheet
+pub mod Record
+pub mod Refusal
+pub mod Pairs
