@@ -4,18 +4,19 @@
 -- entries with its sum; there are at most as many rows as known entries. Assumes nothing.
 use mathlib.Core.Path.{_≡_, refl, sym, ap, _∙_, subst}
 use mathlib.Core.Bool.{Bool, true, false, false≢true, cond}
-use mathlib.Core.Logic.{_↔_, _⊎_, inl, inr}
+use mathlib.Core.Logic.{_↔_, inl, inr, Dec·of-iff}
 use mathlib.Core.List.{List, [], _∷_, _++_, map, List·Memᴰ}
-use Prim.Native.Nat.{ℕ, zero, suc, _^_, _≤_, _<_}
+use Prim.Native.Nat.{ℕ, _^_, _≤_, _<_}
+use native.Mathlib.Decide.{ℕ-discrete}
 use native.Mathlib.Omega.{arith}
-use lib.Bits.{bitXor}
+use lib.Bits.{bitXor, xor-lt}
 use lib.Count.{ones, ones-le}
 use lib.ListN.{length}
 use Rattle.bitset.specs.Set.{member, insert, leading}
 use Rattle.bitset.proofs.Laws.Member.{member-empty}
-use Rattle.bitset.proofs.Laws.Sums.{ones-insert, insert-cases, below-members}
-use Rattle.deduction.specs.Elimination.{Row, Reduced, take-off, reduce, Knowledge, learn, learnAll, nothing, Span, NoLeading, xorOver, Independent}
-use Rattle.deduction.proofs.Elimination.Sums.{xorOver-empty, xorOver-span}
+use Rattle.bitset.proofs.Laws.Sums.{Inside, sum-move, ones-insert, insert-cases, below-members}
+use Rattle.deduction.specs.Elimination.{Row, Reduced, reduce, Knowledge, learn, learnAll, nothing, Span, NoLeading, xorOver, Independent}
+use Rattle.deduction.proofs.Elimination.Sums.{xorOver-empty, xorOver-span, span-xorOver, xorOver-lt}
 use Rattle.deduction.proofs.Elimination.Reduce.{pivot, reduce-both, reduce-none}
 use Rattle.deduction.proofs.Elimination.Leading.{leading-pivot}
 use Rattle.deduction.proofs.Elimination.Rows.{Clear, rows-sum, rows-inside, rows-each, rows-clear, rows-own}
@@ -41,6 +42,12 @@ learn-known s k e h = kept (member (k .known) e) _ h
     kept true x p = refl
     kept false x p = absurd (false≢true p)
 
+-- one more entry at the end of the list
+pub learnAll-more : (s : ℕ → ℕ) (k : Knowledge) (es : List ℕ) (e : ℕ) → learnAll s k (es ++ (e ∷ [])) ≡ learn s (learnAll s k es) e
+unfolding learnAll
+learnAll-more s k [] e = refl
+learnAll-more s k (x ∷ es) e = learnAll-more s (learn s k x) es e
+
 module _ {s : ℕ → ℕ} {n : ℕ} {es : List ℕ} {k : Knowledge} (l : Learnt s n es k) where
   -- used set and remainder sum to the set
   pub reduce-sum : (v : ℕ) → bitXor (xorOver s n (reduce (k .rows) v .used)) (reduce (k .rows) v .remainder) ≡ v
@@ -49,6 +56,19 @@ module _ {s : ℕ → ℕ} {n : ℕ} {es : List ℕ} {k : Knowledge} (l : Learnt
   -- the remainder is nothing exactly when the set is a sum of known ones
   pub reduce-zero : (v : ℕ) → (reduce (k .rows) v .remainder ≡ 0) ↔ Span (map s es) v
   reduce-zero v = (zero-span l v, span-zero l)
+
+  pub span-decidable : (v : ℕ) → Dec (Span (map s es) v)
+  span-decidable v = Dec·of-iff (reduce-zero v) (ℕ-discrete (reduce (k .rows) v .remainder) 0)
+
+  -- the same over the known set
+  pub reduce-zero-known : (v : ℕ) → (reduce (k .rows) v .remainder ≡ 0) ↔ ((u : ℕ) × Inside u (k .known) × (xorOver s n u ≡ v))
+  reduce-zero-known v = (to, from)
+    where
+      to : reduce (k .rows) v .remainder ≡ 0 → (u : ℕ) × Inside u (k .known) × (xorOver s n u ≡ v)
+      to h = let r = span-xorOver s es n (l .below) (zero-span l v h) in (r .0, λ e m. l .members e .1 (r .1 e m), r .2)
+
+      from : (u : ℕ) × Inside u (k .known) × (xorOver s n u ≡ v) → reduce (k .rows) v .remainder ≡ 0
+      from r = span-zero l (subst (Span (map s es)) (r .2) (xorOver-span s es n (r .0) (λ e m. l .members e .0 (r .1 e m))))
 
   -- the leading entry of a sum of known sets is a pivot
   pub span-pivot : (w : ℕ) → Span (map s es) w → ¬ (w ≡ 0) → (r : Row) × List·Memᴰ r (k .rows) × (pivot r ≡ leading w)
@@ -85,6 +105,15 @@ module _ {s : ℕ → ℕ} {n : ℕ} {es : List ℕ} {k : Knowledge} (l : Learnt
 
   pub independent-known : (e : ℕ) → Independent s es e → member (k .known) e ≡ true
   independent-known e h = l .members e .1 (independent-learnt h)
+
+  pub used-below : (v : ℕ) → reduce (k .rows) v .used < 2 ^ n
+  used-below v = below-members n (reduce (k .rows) v .used) (λ e m. l .below e (independent-learnt (used-independent v e m)))
+
+  -- what is left is no wider than the sets
+  pub remainder-below : (w v : ℕ) → ((e : ℕ) → List·Memᴰ e es → s e < 2 ^ w) → v < 2 ^ w → reduce (k .rows) v .remainder < 2 ^ w
+  remainder-below w v wide h =
+      subst (λ (x : ℕ). x < 2 ^ w) (sym (sum-move (xorOver s n (reduce (k .rows) v .used)) (reduce (k .rows) v .remainder) v (reduce-sum v)))
+      (xor-lt w (xorOver s n (reduce (k .rows) v .used)) v (xorOver-lt s w n (reduce (k .rows) v .used) (λ e m. wide e (independent-learnt (used-independent v e m)))) h)
 
   -- and it is the only such set with that sum
   pub used-unique : (v u : ℕ) → ((e : ℕ) → member u e ≡ true → Independent s es e) → xorOver s n u ≡ v → (reduce (k .rows) v .remainder ≡ 0) × (u ≡ reduce (k .rows) v .used)

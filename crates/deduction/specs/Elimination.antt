@@ -3,7 +3,7 @@
 -- `NoLeading`, what a remainder is; `xorOver`, the sum of a set's members; `Independent`, the entries that sums draw on.
 use Prim.Native.Nat.{ℕ, zero, suc}
 use mathlib.Core.Path.{_≡_}
-use mathlib.Core.Bool.{Bool, false, cond}
+use mathlib.Core.Bool.{false, cond}
 use mathlib.Core.List.{List, [], _∷_, _++_, map, List·Memᴰ}
 use lib.Bits.{bitXor}
 use lib.Dec.{eqb}
@@ -59,7 +59,8 @@ pub data Span (vs : List ℕ) : ℕ → Type 0 where
   none : Span vs 0
   more : {v w : ℕ} → List·Memᴰ v vs → Span vs w → Span vs (bitXor v w)
 
--- "the exact remainder .. holds no leading entry of a sum of gained terms": no leading entry of a set in the span that isn't empty
+-- "The remainder holds no standard entry that is the highest-numbered one in some sum of gained terms, which makes it unique": x holds no
+-- leading entry of a set in the span that isn't empty
 abbrev pub NoLeading : List ℕ → ℕ → Type 0
 NoLeading vs x = (w : ℕ) → Span vs w → ¬ (w ≡ 0) → member x (leading w) ≡ false
 

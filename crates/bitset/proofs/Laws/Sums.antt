@@ -2,10 +2,10 @@
 -- Defined: `Inside`, every member of one set is a member of another.
 -- Shown: two equal sets cancel, sums of sums can be regrouped, a sum is empty only where its two sets are equal; the members of a set
 -- and a new entry; a new entry adds one to the number of members; a set of entries below n is below 2^n. Assumes nothing.
-use mathlib.Core.Path.{_≡_, refl, sym, ap, ap₂, _∙_, subst}
+use mathlib.Core.Path.{_≡_, refl, sym, ap, ap₂, _∙_}
 use mathlib.Core.Bool.{Bool, true, false, true≢false, false≢true, xor, cond, Bool·not-not, _||_, or-true}
 use mathlib.Core.Logic.{_⊎_, inl, inr}
-use Prim.Native.Nat.{ℕ, zero, suc, _+_, _*_, _/_, _%_, _^_, _≤_, _<_}
+use Prim.Native.Nat.{ℕ, zero, suc, _+_, _/_, _%_, _^_, _<_}
 use native.Mathlib.Nat.{pow-suc, two-pow-succ, mul-mod-left, mul-div-cancel, not-suc-le-zero, le-of-suc-le-suc}
 use native.Mathlib.Omega.{arith}
 use lib.Bits.{bitXor, xor-comm, xor-self, xor-zero-r, xor-mod, xor-shr}

@@ -5,18 +5,18 @@ use mathlib.Core.Path.{_≡_, refl, sym, ap, ap₂, _∙_, subst}
 use mathlib.Core.Bool.{Bool, true, false, true≢false, cond}
 use mathlib.Core.Logic.{_↔_, _⊎_, inl, inr}
 use mathlib.Core.List.{List, [], _∷_, _++_, map, append-nil, append-assoc, List·Memᴰ, List·Memᴰ·head, List·Memᴰ·tail, List·Memᴰ·append-cases, List·Memᴰ·eq-of-singleton, Memᴰ·append-left, Memᴰ·append-right, Memᴰ·cast}
-use Prim.Native.Nat.{ℕ, zero, suc, _+_, _^_, _≤_, _<_}
+use Prim.Native.Nat.{ℕ, _^_, _≤_, _<_}
 use native.Mathlib.Nat.{le-refl}
 use native.Mathlib.Omega.{arith}
 use lib.Bits.{bitXor}
 use lib.Count.{ones}
 use lib.Dec.{eqb}
-use lib.ListN.{length, length-append}
+use lib.ListN.{length-append}
 use borrow.Author.Tests.{eqb-true, eqb-false}
 use Rattle.bitset.specs.Set.{member, insert}
 use Rattle.bitset.proofs.Laws.Member.{member-single}
 use Rattle.bitset.proofs.Laws.Sums.{member-part, member-new, member-old, insert-cases, insert-own, insert-old, ones-insert}
-use Rattle.deduction.specs.Elimination.{Row, Reduced, reduce, Knowledge, addRow, learn, learnAll, Span, Independent}
+use Rattle.deduction.specs.Elimination.{Reduced, reduce, Knowledge, addRow, learn, learnAll, Span, Independent}
 use Rattle.deduction.proofs.Elimination.Rows.{rowOf, one-more, rows-kept, row-own}
 use Rattle.deduction.proofs.Elimination.State.{Learnt, independent-learnt, zero-span, span-zero}
 

@@ -2,15 +2,14 @@
 -- Defined: `pivot` of a row; `off`, a row taken off; `both`, the sum of two results.
 -- Shown: one more row is one more step; reducing a sum is reducing its parts; what holds no pivot is left alone, and so is the empty
 -- set. Assumes nothing.
-use mathlib.Core.Path.{_≡_, refl, sym, ap, ap₂, _∙_, subst}
-use mathlib.Core.Bool.{Bool, true, false, true≢false, false≢true, xor, cond}
+use mathlib.Core.Path.{_≡_, refl, sym, ap, _∙_}
+use mathlib.Core.Bool.{Bool, true, false, xor, cond}
 use mathlib.Core.List.{List, [], _∷_, _++_, List·Memᴰ, List·Memᴰ·head, List·Memᴰ·tail}
-use Prim.Native.Nat.{ℕ, zero, suc, _^_, _≤_, _<_}
-use native.Mathlib.Omega.{arith}
+use Prim.Native.Nat.{ℕ}
 use lib.Bits.{bitXor, xor-zero-r, xor-self, xor-comm}
 use Rattle.bitset.specs.Set.{member, leading}
 use Rattle.bitset.proofs.Laws.Member.{member-empty, member-sum, sum-assoc}
-use Rattle.bitset.proofs.Laws.Sums.{sum-swap, sum-left-comm}
+use Rattle.bitset.proofs.Laws.Sums.{sum-swap}
 use Rattle.deduction.specs.Elimination.{Row, Reduced, take-off, reduceFrom, reduce}
 
 -- the row's pivot
@@ -40,6 +39,17 @@ reduceFrom-more x (q ∷ rows) r = reduceFrom-more (take-off x q) rows r
 pub reduce-more : (rows : List Row) (r : Row) (v : ℕ) → reduce (rows ++ (r ∷ [])) v ≡ take-off (reduce rows v) r
 unfolding reduce
 reduce-more rows r v = reduceFrom-more (record { remainder = v; used = 0 }) rows r
+
+-- and the remainder needs no used set: this is how remainders are kept while rows are added
+pub remainder-more : (rows : List Row) (r : Row) (v : ℕ)
+    → reduce (rows ++ (r ∷ [])) v .remainder
+    ≡ cond (member (reduce rows v .remainder) (leading (r .vector))) (bitXor (reduce rows v .remainder) (r .vector)) (reduce rows v .remainder)
+unfolding take-off
+remainder-more rows r v = ap (λ (x : Reduced). x .remainder) (reduce-more rows r v) ∙ go (member (reduce rows v .remainder) (pivot r))
+  where
+    go : (b : Bool) → cond b (off (reduce rows v) r) (reduce rows v) .remainder ≡ cond b (bitXor (reduce rows v .remainder) (r .vector)) (reduce rows v .remainder)
+    go true = refl
+    go false = refl
 
 -- two results side by side
 abbrev pub both : Reduced → Reduced → Reduced

@@ -4,20 +4,19 @@
 -- those entries is reduced to nothing by using that very set. Assumes nothing.
 use mathlib.Core.Path.{_≡_, refl, sym, ap, ap₂, _∙_, subst}
 use mathlib.Core.Bool.{Bool, true, false, true≢false, false≢true, xor}
-use mathlib.Core.Logic.{_⊎_, inl, inr}
+use mathlib.Core.Logic.{inl, inr}
 use mathlib.Core.List.{List, [], _∷_, _++_, List·Memᴰ, List·Memᴰ·not-nil, List·Memᴰ·append-cases, List·Memᴰ·eq-of-singleton}
-use Prim.Native.Nat.{ℕ, zero, suc, _^_, _≤_, _<_}
+use Prim.Native.Nat.{ℕ, _^_, _<_}
 use native.Mathlib.Omega.{arith}
-use lib.Bits.{bitXor, xor-self, xor-zero-r, xor-comm}
-use lib.Dec.{eqb}
+use lib.Bits.{bitXor, xor-self, xor-zero-r}
 use borrow.Author.Tests.{eqb-true}
-use Rattle.bitset.specs.Set.{member, leading}
-use Rattle.bitset.proofs.Laws.Member.{member-empty, member-sum, member-single, sum-assoc}
+use Rattle.bitset.specs.Set.{member}
+use Rattle.bitset.proofs.Laws.Member.{member-empty, member-sum, member-single}
 use Rattle.bitset.proofs.Laws.Leading.{leading-member}
 use Rattle.bitset.proofs.Laws.Sums.{sum-cancel, sum-cancel-right, sum-swap, sum-move, Inside, member-part, member-new, member-old, inside-old, inside-rest, nothing-inside}
 use Rattle.deduction.specs.Elimination.{Row, Reduced, take-off, reduceFrom, reduce, xorOver}
 use Rattle.deduction.proofs.Elimination.Sums.{xorOver-empty, xorOver-sum, xorOver-single}
-use Rattle.deduction.proofs.Elimination.Reduce.{pivot, off, both, take-off-cases, reduce-more, reduce-both, reduce-none, reduce-empty}
+use Rattle.deduction.proofs.Elimination.Reduce.{pivot, off, both, take-off-cases, reduce-more, reduce-both, reduce-empty}
 
 -- the row of entry e over earlier rows: what they leave of its set
 abbrev pub rowOf : (ℕ → ℕ) → List Row → ℕ → Row

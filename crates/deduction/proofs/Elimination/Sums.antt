@@ -1,19 +1,21 @@
 -- The sum of the sets of a set's members.
--- Shown: the sum over the empty set, over a sum of sets and over a single entry; the sums over sets of given entries are exactly
--- the span of their sets. Assumes nothing.
-use mathlib.Core.Path.{_≡_, refl, sym, ap, ap₂, _∙_, subst}
-use mathlib.Core.Bool.{Bool, true, false, true≢false, false≢true, xor, cond}
+-- Shown: the sum over the empty set, over a sum of sets and over a single entry; its members and its size; the sums over sets of given entries, and over lists of
+-- them, are exactly the span of their sets. Assumes nothing.
+use mathlib.Core.Path.{_≡_, refl, sym, ap, ap₂, _∙_}
+use mathlib.Core.Bool.{Bool, true, false, false≢true, xor, cond}
 use mathlib.Core.Logic.{_⊎_, inl, inr}
-use mathlib.Core.List.{List, map, List·Memᴰ, Memᴰ·cast, Memᴰ·map, Memᴰ·of-map}
-use Prim.Native.Nat.{ℕ, zero, suc, _^_, _≤_, _<_}
+use mathlib.Core.List.{List, [], _∷_, map, List·Memᴰ, List·Memᴰ·head, List·Memᴰ·tail, List·Memᴰ·not-nil, List·Memᴰ·cases-cons, Memᴰ·cast, Memᴰ·map, Memᴰ·of-map}
+use Prim.Native.Nat.{ℕ, zero, suc, _^_, _<_}
 use native.Mathlib.Nat.{not-suc-le-zero}
 use native.Mathlib.Omega.{arith}
-use lib.Bits.{bitXor, xor-zero-r}
+use lib.Bits.{bitXor, xor-zero-r, xor-lt}
+use lib.Pow.{pow-pos}
 use lib.Dec.{eqb}
-use borrow.Author.Tests.{eqb-true, eqb-false, eq-eqb, ne-eqb}
+use borrow.Author.Tests.{eqb-true, eqb-false, ne-eqb}
 use Rattle.bitset.specs.Set.{member}
 use Rattle.bitset.proofs.Laws.Member.{member-empty, member-sum, member-single, sum-assoc}
 use Rattle.bitset.proofs.Laws.Sums.{sum-cancel, sum-left-comm, member-part}
+use Rattle.deduction.specs.Standard.{xorAll}
 use Rattle.deduction.specs.Elimination.{xorOver, Span, none, more}
 
 module _ (s : ℕ → ℕ) where
@@ -58,6 +60,30 @@ module _ (s : ℕ → ℕ) where
           let q : ¬ (e ≡ n) = eqb-false e n p in
           ap (λ (b : Bool). cond b (bitXor (s n) (xorOver s n (2 ^ e))) (xorOver s n (2 ^ e))) (m ∙ p) ∙ ih (omega arith)
 
+  -- a member of a sum over u is a member of the set of a member of u
+  pub xorOver-member : (n u k : ℕ) → member (xorOver s n u) k ≡ true → (j : ℕ) × (j < n) × (member u j ≡ true) × (member (s j) k ≡ true)
+  unfolding xorOver
+  xorOver-member zero u k m = absurd (false≢true (sym (member-empty k) ∙ m))
+  xorOver-member (suc n) u k m = go (member u n) refl (λ h. xorOver-member n u k h) m
+    where
+      lower : (j : ℕ) × (j < n) × (member u j ≡ true) × (member (s j) k ≡ true) → (j : ℕ) × (j < suc n) × (member u j ≡ true) × (member (s j) k ≡ true)
+      lower r = (r .0, omega arith, r .2, r .3)
+
+      go : (b : Bool) → member u n ≡ b → (member (xorOver s n u) k ≡ true → (j : ℕ) × (j < n) × (member u j ≡ true) × (member (s j) k ≡ true))
+          → member (cond b (bitXor (s n) (xorOver s n u)) (xorOver s n u)) k ≡ true → (j : ℕ) × (j < suc n) × (member u j ≡ true) × (member (s j) k ≡ true)
+      go true p ih h = elim (member-part (s n) (xorOver s n u) k h) [ inl i ↦ (n, omega arith, p, i) | inr i ↦ lower (ih i) ]
+      go false p ih h = lower (ih h)
+
+  -- where the sets of the members are below 2^w, so is their sum
+  pub xorOver-lt : (w n u : ℕ) → ((e : ℕ) → member u e ≡ true → s e < 2 ^ w) → xorOver s n u < 2 ^ w
+  unfolding xorOver
+  xorOver-lt w zero u h = pow-pos w
+  xorOver-lt w (suc n) u h = go (member u n) refl (xorOver-lt w n u h)
+    where
+      go : (b : Bool) → member u n ≡ b → xorOver s n u < 2 ^ w → cond b (bitXor (s n) (xorOver s n u)) (xorOver s n u) < 2 ^ w
+      go true p ih = xor-lt w (s n) (xorOver s n u) (h n p) ih
+      go false p ih = ih
+
   -- a sum over a set of listed entries is in the span of their sets
   pub xorOver-span : (es : List ℕ) (n u : ℕ) → ((e : ℕ) → member u e ≡ true → List·Memᴰ e es) → Span (map s es) (xorOver s n u)
   unfolding xorOver
@@ -84,3 +110,34 @@ module _ (s : ℕ → ℕ) where
               either : (member (2 ^ a) e ≡ true) ⊎ (member u e ≡ true) → List·Memᴰ e es
               either (inl x) = Memᴰ·cast (sym (eqb-true a e (sym (member-single a e) ∙ x))) i
               either (inr x) = h e x
+
+  -- the span of the sets of listed entries is the sums of lists of these entries
+  pub xorAll-span : (gs js : List ℕ) → ((j : ℕ) → List·Memᴰ j js → List·Memᴰ j gs) → Span (map s gs) (xorAll s js)
+  unfolding xorAll
+  xorAll-span gs [] h = none
+  xorAll-span gs (j ∷ js) h = more (Memᴰ·map s (h j (List·Memᴰ·head refl))) (xorAll-span gs js (λ i m. h i (List·Memᴰ·tail m)))
+
+  pub span-xorAll : (gs : List ℕ) {v : ℕ} → Span (map s gs) v → (js : List ℕ) × ((j : ℕ) → List·Memᴰ j js → List·Memᴰ j gs) × (xorAll s js ≡ v)
+  unfolding xorAll
+  span-xorAll gs none = ([], λ j m. absurd (List·Memᴰ·not-nil m), refl)
+  span-xorAll gs (more {v} {w} m r) = go (span-xorAll gs r) (Memᴰ·of-map s gs m)
+    where
+      go : (js : List ℕ) × ((j : ℕ) → List·Memᴰ j js → List·Memᴰ j gs) × (xorAll s js ≡ w) → (a : ℕ) × List·Memᴰ a gs × (s a ≡ v)
+          → (js : List ℕ) × ((j : ℕ) → List·Memᴰ j js → List·Memᴰ j gs) × (xorAll s js ≡ bitXor v w)
+      go (js, h, p) (a, i, q) = (a ∷ js, λ j k. elim (List·Memᴰ·cases-cons k) [ inl x ↦ Memᴰ·cast x i | inr x ↦ h j x ], ap₂ bitXor q p)
+
+-- the sum over a sum of sets, and sums over equal sets
+pub xorOver-xorOver : (c s : ℕ → ℕ) (n m u : ℕ) → xorOver c n (xorOver s m u) ≡ xorOver (λ j. xorOver c n (s j)) m u
+unfolding xorOver
+xorOver-xorOver c s n zero u = xorOver-empty c n
+xorOver-xorOver c s n (suc m) u = go (member u m) (xorOver-xorOver c s n m u)
+  where
+    go : (b : Bool) → xorOver c n (xorOver s m u) ≡ xorOver (λ j. xorOver c n (s j)) m u
+        → xorOver c n (cond b (bitXor (s m) (xorOver s m u)) (xorOver s m u)) ≡ cond b (bitXor (xorOver c n (s m)) (xorOver (λ j. xorOver c n (s j)) m u)) (xorOver (λ j. xorOver c n (s j)) m u)
+    go true h = xorOver-sum c n (s m) (xorOver s m u) ∙ ap (bitXor (xorOver c n (s m))) h
+    go false h = h
+
+pub xorOver-same : (c d : ℕ → ℕ) (n u : ℕ) → ((j : ℕ) → j < n → c j ≡ d j) → xorOver c n u ≡ xorOver d n u
+unfolding xorOver
+xorOver-same c d zero u h = refl
+xorOver-same c d (suc n) u h = ap₂ (λ (x y : ℕ). cond (member u n) (bitXor x y) y) (h n (omega arith)) (xorOver-same c d n u (λ j l. h j (omega arith)))
