@@ -5,14 +5,13 @@
 -- terms that are ≈ have one code. Assumes nothing.
 use mathlib.Core.Path.{_≡_, refl, sym, ap, ap₂, _∙_}
 use mathlib.Core.Bool.{Bool, true, false, true≢false, xor}
-use mathlib.Core.Logic.{_⊎_, inl, inr, ⊎-elim}
+use mathlib.Core.Logic.{_⊎_, inl, inr}
 use Prim.Native.Nat.{ℕ, _+_, _*_, _^_}
 use native.Mathlib.Omega.{arith}
 use lib.Bits.{bitXor, xor-comm, xor-self, xor-zero-r}
-use lib.Dec.{eqb}
-use borrow.Author.Tests.{eq-eqb, eqb-true}
+use borrow.Author.Tests.{eq-eqb, ne-eqb, eqb-true}
 use Rattle.bitset.specs.Set.{member}
-use Rattle.bitset.proofs.Laws.Member.{member-sum, member-single, sum-assoc, same-members}
+use Rattle.bitset.proofs.Laws.Member.{member-empty, member-sum, member-single, sum-assoc}
 use Rattle.deduction.specs.Term.{Term, 𝟎, atom, pair, enc, _⊕_, _≈_, assoc, comm, unit, self, in-pair, in-enc, in-sum, same, flip, then}
 
 -- the set of the place p alone
@@ -27,8 +26,15 @@ pub bit-only : (p q : ℕ) → member (bit p) q ≡ true → p ≡ q
 unfolding bit
 bit-only p q h = eqb-true p q (sym (member-single p q) ∙ h)
 
+pub bit-other : (p q : ℕ) → (p ≡ q → ⊥) → member (bit p) q ≡ false
+unfolding bit
+bit-other p q h = member-single p q ∙ ne-eqb p q h
+
 pub bit-same : (p q : ℕ) → bit p ≡ bit q → p ≡ q
 bit-same p q h = bit-only p q (ap (λ (s : ℕ). member s q) h ∙ bit-own q)
+
+pub empty-none : (p : ℕ) → ¬ (member 0 p ≡ true)
+empty-none p h = true≢false (sym h ∙ member-empty p)
 
 -- a member of a sum is a member of one of the two
 pub member-either : (a b p : ℕ) → member (bitXor a b) p ≡ true → (member a p ≡ true) ⊎ (member b p ≡ true)
@@ -67,7 +73,10 @@ couple x y = bitXor (bit (2 * x)) (bit (2 * y + 1))
 
 couple-same : (x y x′ y′ : ℕ) → couple x y ≡ couple x′ y′ → (x ≡ x′) × (y ≡ y′)
 unfolding couple
-couple-same x y x′ y′ h = (left (shared-place (2 * x) (2 * y + 1) (2 * x′) (2 * y′ + 1) (omega arith) h), right (shared-place (2 * y + 1) (2 * x) (2 * x′) (2 * y′ + 1) (omega arith) (xor-comm (bit (2 * y + 1)) (bit (2 * x)) ∙ h)))
+couple-same x y x′ y′ h = (
+  left (shared-place (2 * x) (2 * y + 1) (2 * x′) (2 * y′ + 1) (omega arith) h),
+  right (shared-place (2 * y + 1) (2 * x) (2 * x′) (2 * y′ + 1) (omega arith) (xor-comm (bit (2 * y + 1)) (bit (2 * x)) ∙ h)),
+)
   where
     left : (2 * x′ ≡ 2 * x) ⊎ (2 * y′ + 1 ≡ 2 * x) → x ≡ x′
     left (inl e) = omega arith
@@ -84,7 +93,10 @@ place k x y = couple k (couple x y)
 -- the same place has the same kind and the same parts
 pub place-same : (k x y k′ x′ y′ : ℕ) → place k x y ≡ place k′ x′ y′ → (k ≡ k′) × (x ≡ x′) × (y ≡ y′)
 unfolding place
-place-same k x y k′ x′ y′ h = let outer = couple-same k (couple x y) k′ (couple x′ y′) h in let inner = couple-same x y x′ y′ (outer .1) in (outer .0, inner .0, inner .1)
+place-same k x y k′ x′ y′ h =
+    let outer = couple-same k (couple x y) k′ (couple x′ y′) h in
+    let inner = couple-same x y x′ y′ (outer .1) in
+    (outer .0, inner .0, inner .1)
 
 pub code : Term → ℕ
 code 𝟎 = 0
@@ -112,6 +124,14 @@ code-enc m k = refl
 pub code-sum : (a b : Term) → code (a ⊕ b) ≡ bitXor (code a) (code b)
 unfolding code
 code-sum a b = refl
+
+pub zero-none : (p : ℕ) → ¬ (member (code 𝟎) p ≡ true)
+unfolding code
+zero-none p h = empty-none p h
+
+pub sum-either : (a b : Term) (p : ℕ) → member (code (a ⊕ b)) p ≡ true → (member (code a) p ≡ true) ⊎ (member (code b) p ≡ true)
+unfolding code
+sum-either a b p h = member-either (code a) (code b) p h
 
 -- terms that are ≈ have one code
 pub same-code : {t u : Term} → t ≈ u → code t ≡ code u

@@ -2,17 +2,16 @@
 -- Defined: `Piece s p`, s is an atom, a pair or an encryption with the place p; `Part t p`, a piece taken out of t and what is left.
 -- Shown: a member of t's code is the place of a part of t; `code-same`; ≈ is decidable. The proof takes two parts with one place out of a
 -- term whose code is empty; their own parts are ≈ by induction on the size, so the two cancel. Assumes nothing.
-use mathlib.Core.Path.{_≡_, refl, sym, ap, ap₂, _∙_, subst}
-use mathlib.Core.Bool.{Bool, true, false, true≢false}
+use mathlib.Core.Path.{_≡_, refl, sym, ap, _∙_, subst}
+use mathlib.Core.Bool.{true}
 use mathlib.Core.Logic.{_⊎_, inl, inr, ⊎-elim, _↔_, Iff·symm, Dec·of-iff}
 use Prim.Native.Nat.{ℕ, zero, suc, _+_, _≤_, _<_}
 use native.Mathlib.Decide.{ℕ-discrete}
 use native.Mathlib.Omega.{arith}
 use lib.Bits.{bitXor, xor-self}
 use Rattle.bitset.specs.Set.{member}
-use Rattle.bitset.proofs.Laws.Member.{member-empty}
 use Rattle.deduction.specs.Term.{Term, 𝟎, atom, pair, enc, _⊕_, _≈_, assoc, comm, unit, self, in-pair, in-enc, in-sum, same, flip, then}
-use Rattle.deduction.proofs.Coding.{bit, bit-own, bit-only, member-either, member-one, place, place-same, code, code-zero, code-atom, code-pair, code-enc, code-sum, same-code}
+use Rattle.deduction.proofs.Coding.{bit, bit-own, bit-only, empty-none, member-one, place, place-same, code, code-atom, code-pair, code-enc, code-sum, zero-none, sum-either, same-code}
 
 pub zero-sum : {t : Term} → 𝟎 ⊕ t ≈ t
 zero-sum = then comm unit
@@ -75,11 +74,11 @@ only-part {s} {p} {q} h m = subst (Part s) (bit-only q p (ap (λ (x : ℕ). memb
 
 -- a member of a term's code is the place of a part
 part-at : (t : Term) (p : ℕ) → member (code t) p ≡ true → Part t p
-part-at 𝟎 p h = absurd (true≢false (sym h ∙ ap (λ (s : ℕ). member s p) code-zero ∙ member-empty p))
+part-at 𝟎 p h = absurd (zero-none p h)
 part-at (atom a) p h = only-part (atom-piece a) h
 part-at (pair a b) p h = only-part (pair-piece a b) h
 part-at (enc m k) p h = only-part (enc-piece m k) h
-part-at (a ⊕ b) p h = ⊎-elim (λ (q : member (code a) p ≡ true). left-part (part-at a p q)) (λ (q : member (code b) p ≡ true). right-part (part-at b p q)) (member-either (code a) (code b) p (ap (λ (s : ℕ). member s p) (sym (code-sum a b)) ∙ h))
+part-at (a ⊕ b) p h = ⊎-elim (λ q. left-part (part-at a p q)) (λ q. right-part (part-at b p q)) (sum-either a b p h)
 
 -- a term is ≈ zero or has a part
 some-part : (t : Term) → (t ≈ 𝟎) ⊎ ((p : ℕ) × Part t p)
@@ -95,11 +94,16 @@ some-part (a ⊕ b) = go (some-part a) (some-part b)
     go (inl x) (inl y) = inl (then (in-sum x y) unit)
 
 -- pieces with one place are ≈, where their own parts with one code are
-pieces-same : {s s′ : Term} {p p′ : ℕ} → Piece s p → Piece s′ p′ → p ≡ p′ → ((a b : Term) → size a + size b < size s + size s′ → code a ≡ code b → a ≈ b) → s ≈ s′
+pieces-same : {s s′ : Term} {p p′ : ℕ} → Piece s p → Piece s′ p′ → p ≡ p′
+    → ((a b : Term) → size a + size b < size s + size s′ → code a ≡ code b → a ≈ b) → s ≈ s′
 unfolding size
 pieces-same (atom-piece a) (atom-piece a′) e below = subst (λ (x : ℕ). atom a ≈ atom x) (place-same 0 a 0 0 a′ 0 e .1) same
-pieces-same (pair-piece a b) (pair-piece a′ b′) e below = let q = place-same 1 (code a) (code b) 1 (code a′) (code b′) e in in-pair (below a a′ (omega arith) (q .1)) (below b b′ (omega arith) (q .2))
-pieces-same (enc-piece m k) (enc-piece m′ k′) e below = let q = place-same 2 (code m) (code k) 2 (code m′) (code k′) e in in-enc (below m m′ (omega arith) (q .1)) (below k k′ (omega arith) (q .2))
+pieces-same (pair-piece a b) (pair-piece a′ b′) e below =
+    let q = place-same 1 (code a) (code b) 1 (code a′) (code b′) e in
+    in-pair (below a a′ (omega arith) (q .1)) (below b b′ (omega arith) (q .2))
+pieces-same (enc-piece m k) (enc-piece m′ k′) e below =
+    let q = place-same 2 (code m) (code k) 2 (code m′) (code k′) e in
+    in-enc (below m m′ (omega arith) (q .1)) (below k k′ (omega arith) (q .2))
 pieces-same (atom-piece a) (pair-piece a′ b′) e below = absurd (omega (arith, place-same _ _ _ _ _ _ e .0))
 pieces-same (atom-piece a) (enc-piece m′ k′) e below = absurd (omega (arith, place-same _ _ _ _ _ _ e .0))
 pieces-same (pair-piece a b) (atom-piece a′) e below = absurd (omega (arith, place-same _ _ _ _ _ _ e .0))
@@ -109,7 +113,8 @@ pieces-same (enc-piece m k) (pair-piece a′ b′) e below = absurd (omega (arit
 
 -- a part's place is a member of what is left, where the whole code is empty
 left-over : (t : Term) (p : ℕ) (h : Part t p) → code t ≡ 0 → member (code (h .rest)) p ≡ true
-left-over t p h z = ⊎-elim (λ (q : member (bitXor (bit p) (code (h .rest))) p ≡ true). absurd (true≢false (sym q ∙ ap (λ (s : ℕ). member s p) none ∙ member-empty p))) (λ (q : member (code (h .rest)) p ≡ true). q) (member-one (bit p) (code (h .rest)) p (bit-own p))
+left-over t p h z =
+    ⊎-elim (λ q. absurd (empty-none p (ap (λ (s : ℕ). member s p) (sym none) ∙ q))) (λ q. q) (member-one (bit p) (code (h .rest)) p (bit-own p))
   where
     none : bitXor (bit p) (code (h .rest)) ≡ 0
     none = ap (λ (s : ℕ). bitXor s (code (h .rest))) (sym (piece-code (h .stands))) ∙ sym (code-sum (h .piece) (h .rest)) ∙ sym (same-code (h .whole)) ∙ z
@@ -118,7 +123,8 @@ left-over t p h z = ⊎-elim (λ (q : member (bitXor (bit p) (code (h .rest))) p
 zero-code-below : (n : ℕ) (t : Term) → size t < n → code t ≡ 0 → t ≈ 𝟎
 unfolding size
 zero-code-below zero t l z = absurd (omega arith)
-zero-code-below (suc n) t l z = ⊎-elim (λ (h : t ≈ 𝟎). h) (λ (h : (p : ℕ) × Part t p). cancel (zero-code-below n) (h .0) (h .1) (part-at (h .1 .rest) (h .0) (left-over t (h .0) (h .1) z))) (some-part t)
+zero-code-below (suc n) t l z =
+    ⊎-elim (λ h. h) (λ (p, h). cancel (zero-code-below n) p h (part-at (h .rest) p (left-over t p h z))) (some-part t)
   where
     cancel : ((u : Term) → size u < n → code u ≡ 0 → u ≈ 𝟎) → (p : ℕ) (h : Part t p) → Part (h .rest) p → t ≈ 𝟎
     cancel below p h h′ = then gone (below (h′ .rest) (omega (arith, piece-size (h .stands), piece-size (h′ .stands), h .smaller, h′ .smaller)) (sym (same-code gone) ∙ z))

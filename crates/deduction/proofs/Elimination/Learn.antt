@@ -68,9 +68,12 @@ module _ {s : ℕ → ℕ} {n : ℕ} {es : List ℕ} {k : Knowledge} (l : Learnt
         members = mem;
         settled = λ x m. elim (last-mem es e m) [ inl i ↦ l .settled x i | inr i ↦ ap (λ (y : ℕ). reduce (k .rows) (s y) .remainder) i ∙ h ];
         below = below′;
-        independent = λ x. (λ m. independent-kept (e ∷ []) (l .independent x .0 m), λ i. elim (independent-last s es e x i) [ inl j ↦ l .independent x .1 j | inr j ↦ absurd (j .1 (zero-span l (s e) h)) ]);
+        independent = λ x. (λ m. independent-kept (e ∷ []) (l .independent x .0 m), still x);
         count = let b = l .count in omega arith;
       }
+    where
+      still : (x : ℕ) → Independent s (es ++ (e ∷ [])) x → member (l .free) x ≡ true
+      still x i = elim (independent-last s es e x i) [ inl j ↦ l .independent x .1 j | inr j ↦ absurd (j .1 (zero-span l (s e) h)) ]
 
   inserted : (x : ℕ) → (member (insert (k .known) e) x ≡ true) ↔ List·Memᴰ x (es ++ (e ∷ []))
   inserted x = (to, from)
@@ -89,7 +92,7 @@ module _ {s : ℕ → ℕ} {n : ℕ} {es : List ℕ} {k : Knowledge} (l : Learnt
         free = bitXor (l .free) (2 ^ e);
         built = one-more e (l .built) small own h;
         members = inserted;
-        settled = λ x m. elim (last-mem es e m) [ inl i ↦ old x (l .settled x i) | inr i ↦ ap (λ (y : ℕ). reduce (k .rows ++ (rowOf s (k .rows) e ∷ [])) (s y) .remainder) i ∙ ap (λ (z : Reduced). z .remainder) (row-own s n (k .rows) e h) ];
+        settled = λ x m. elim (last-mem es e m) [ inl i ↦ old x (l .settled x i) | inr i ↦ ap left i ∙ ap (λ (z : Reduced). z .remainder) (row-own s n (k .rows) e h) ];
         below = below′;
         independent = λ x. (to x, from x);
         count = let b = l .count in simp length-append (omega (arith, ones-insert (k .known) e new));
@@ -102,14 +105,23 @@ module _ {s : ℕ → ℕ} {n : ℕ} {es : List ℕ} {k : Knowledge} (l : Learnt
       own : member (l .free) e ≡ false
       own = known-free (member (l .free) e) refl
 
-      old : (x : ℕ) → reduce (k .rows) (s x) .remainder ≡ 0 → reduce (k .rows ++ (rowOf s (k .rows) e ∷ [])) (s x) .remainder ≡ 0
+      left : ℕ → ℕ
+      left x = reduce (k .rows ++ (rowOf s (k .rows) e ∷ [])) (s x) .remainder
+
+      old : (x : ℕ) → reduce (k .rows) (s x) .remainder ≡ 0 → left x ≡ 0
       old x p = ap (λ (z : Reduced). z .remainder) (rows-kept s n (k .rows) (rowOf s (k .rows) e) (s x) p) ∙ p
 
       to : (x : ℕ) → member (bitXor (l .free) (2 ^ e)) x ≡ true → Independent s (es ++ (e ∷ [])) x
-      to x m = elim (member-part (l .free) (2 ^ e) x m) [ inl i ↦ independent-kept (e ∷ []) (l .independent x .0 i) | inr i ↦ subst (Independent s (es ++ (e ∷ []))) (eqb-true e x (sym (member-single e x) ∙ i)) (es, [], refl, λ p. h (span-zero l p)) ]
+      to x m =
+          elim (member-part (l .free) (2 ^ e) x m) [
+            | inl i ↦ independent-kept (e ∷ []) (l .independent x .0 i)
+            | inr i ↦ subst (Independent s (es ++ (e ∷ []))) (eqb-true e x (sym (member-single e x) ∙ i)) (es, [], refl, λ p. h (span-zero l p))
+          ]
 
       from : (x : ℕ) → Independent s (es ++ (e ∷ [])) x → member (bitXor (l .free) (2 ^ e)) x ≡ true
-      from x i = elim (independent-last s es e x i) [ inl j ↦ member-old (l .free) e own x (l .independent x .1 j) | inr j ↦ ap (member (bitXor (l .free) (2 ^ e))) (j .0) ∙ member-new (l .free) e own ]
+      from x i =
+          elim (independent-last s es e x i)
+          [ inl j ↦ member-old (l .free) e own x (l .independent x .1 j) | inr j ↦ ap (member (bitXor (l .free) (2 ^ e))) (j .0) ∙ member-new (l .free) e own ]
 
   -- learning one more entry
   pub learn-learnt : Learnt s n (es ++ (e ∷ [])) (learn s k e)

@@ -57,7 +57,9 @@ both x y = record { remainder = bitXor (x .remainder) (y .remainder); used = bit
 
 take-off-both : (x y : Reduced) (r : Row) → take-off (both x y) r ≡ both (take-off x r) (take-off y r)
 unfolding take-off xor
-take-off-both x y r = ap (λ (b : Bool). cond b (off (both x y) r) (both x y)) (member-sum (x .remainder) (y .remainder) (pivot r)) ∙ go (member (x .remainder) (pivot r)) (member (y .remainder) (pivot r))
+take-off-both x y r =
+    ap (λ (b : Bool). cond b (off (both x y) r) (both x y)) (member-sum (x .remainder) (y .remainder) (pivot r))
+    ∙ go (member (x .remainder) (pivot r)) (member (y .remainder) (pivot r))
   where
     made : {a b c d : ℕ} → a ≡ b → c ≡ d → _≡_ {A = Reduced} (record { remainder = a; used = c }) (record { remainder = b; used = d })
     made p q = λ i. record { remainder = p i; used = q i }

@@ -44,7 +44,8 @@ clear-step rows r x some cr cx = take-off-cases (λ (y : Reduced). Clear (rows +
     taken : member (x .remainder) (pivot r) ≡ true → Clear (rows ++ (r ∷ [])) (bitXor (x .remainder) (r .vector))
     taken h q m =
         member-sum (x .remainder) (r .vector) (pivot q)
-        ∙ elim (List·Memᴰ·append-cases rows m) [ inl i ↦ ap₂ xor (cx q i) (cr q i) | inr i ↦ ap₂ xor (own (x .remainder) true i h) (own (r .vector) true i (leading-member (r .vector) (omega arith))) ]
+        ∙ elim (List·Memᴰ·append-cases rows m)
+        [ inl i ↦ ap₂ xor (cx q i) (cr q i) | inr i ↦ ap₂ xor (own (x .remainder) true i h) (own (r .vector) true i (leading-member (r .vector) (omega arith))) ]
 
     left : member (x .remainder) (pivot r) ≡ false → Clear (rows ++ (r ∷ [])) (x .remainder)
     left h q m = elim (List·Memᴰ·append-cases rows m) [ inl i ↦ cx q i | inr i ↦ own (x .remainder) false i h ]
@@ -137,7 +138,9 @@ module _ (s : ℕ → ℕ) (n : ℕ) where
 
   -- the sum over a set of the rows' entries is reduced to nothing, by using that set
   pub rows-own : {rows : List Row} {free : ℕ} → Rows s n rows free → (u : ℕ) → Inside u free → reduce rows (xorOver s n u) ≡ record { remainder = 0; used = u }
-  rows-own no-rows u h = ap (reduce []) (ap (xorOver s n) (nothing-inside u h) ∙ xorOver-empty s n) ∙ reduce-empty [] ∙ ap (λ (x : ℕ). record { remainder = 0; used = x }) (sym (nothing-inside u h))
+  rows-own no-rows u h =
+      ap (reduce []) (ap (xorOver s n) (nothing-inside u h) ∙ xorOver-empty s n) ∙ reduce-empty []
+      ∙ ap (λ (x : ℕ). record { remainder = 0; used = x }) (sym (nothing-inside u h))
   rows-own (one-more {rows} {free} e b l f z) u h = go (member u e) refl (λ w i. rows-own b w i)
     where
       go : (c : Bool) → member u e ≡ c → ((w : ℕ) → Inside w free → reduce rows (xorOver s n w) ≡ record { remainder = 0; used = w })

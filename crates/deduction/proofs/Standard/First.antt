@@ -45,6 +45,15 @@ first e i = firstAlike (setAt e) e i
 abbrev pub Plain : (ℕ → Entry) → ℕ → Type 0
 Plain e i = ¬ (shapeAt e i .kind ≡ 0)
 
+-- there is no kind above 3
+pub kind-le : (s : ℕ → ℕ) (d : Entry) → shape s d .kind ≤ 3
+unfolding shape
+kind-le s Zero = omega arith
+kind-le s (Atom a) = omega arith
+kind-le s (Pair l r) = omega arith
+kind-le s (Enc m k) = omega arith
+kind-le s (Sum items) = omega arith
+
 module _ (e : ℕ → Entry) where
   pub first-le : (i : ℕ) → first e i ≤ i
   unfolding firstAlike
@@ -59,7 +68,9 @@ module _ (e : ℕ → Entry) where
 
   first-none : (i j : ℕ) → shapeAt e j ≡ shapeAt e i → first e i ≤ j
   unfolding firstAlike
-  first-none i j h = by-cases (decLt j (first e i)) (λ l. absurd (true≢false (sym (same-alike (shapeAt e j) (shapeAt e i) h) ∙ least-before (λ k. alike (shapeAt e k) (shapeAt e i)) i j l))) (λ l. omega arith)
+  first-none i j h =
+      by-cases (decLt j (first e i))
+      (λ l. absurd (true≢false (sym (same-alike (shapeAt e j) (shapeAt e i) h) ∙ least-before (λ k. alike (shapeAt e k) (shapeAt e i)) i j l))) (λ l. omega arith)
 
   -- entries of one shape have one first entry
   pub first-same : (i j : ℕ) → shapeAt e i ≡ shapeAt e j → first e i ≡ first e j
@@ -92,7 +103,9 @@ module _ (e : ℕ → Entry) where
     set-first i h p = plain-set i h p ∙ go (ltb (first e i) i) refl
       where
         go : (b : Bool) → ltb (first e i) i ≡ b → cond b (setAt e (first e i)) (2 ^ i) ≡ 2 ^ first e i
-        go true q = plain-set (first e i) (omega (arith, first-le i)) (first-plain i p) ∙ ap (λ (b : Bool). cond b (setAt e (first e (first e i))) (2 ^ first e i)) (le-ltb (first e (first e i)) (first e i) (omega (arith, first-first i)))
+        go true q =
+            plain-set (first e i) (omega (arith, first-le i)) (first-plain i p)
+            ∙ ap (λ (b : Bool). cond b (setAt e (first e (first e i))) (2 ^ first e i)) (le-ltb (first e (first e i)) (first e i) (omega (arith, first-first i)))
         go false q = ap (λ (x : ℕ). 2 ^ x) (equal (ltb-false (first e i) i q))
           where
             equal : i ≤ first e i → i ≡ first e i

@@ -127,7 +127,9 @@ module _ (e : ℕ → Entry) (n : ℕ) (down : Downward e n) where
           (xorOver-sum (codeAt e) n (setAt e l) (setAt e r) ∙ ap (bitXor (xorOver (codeAt e) n (setAt e l))) (sym s) ∙ xor-self (xorOver (codeAt e) n (setAt e l))))
         where
           top : (k : ℕ) → member (bitXor (setAt e l) (setAt e r)) k ≡ true → k ≤ m
-          top k i = elim (member-part (setAt e l) (setAt e r) k i) [ inl j ↦ omega (arith, members-le e n down l (omega arith) k j) | inr j ↦ omega (arith, members-le e n down r (omega arith) k j) ]
+          top k i =
+              elim (member-part (setAt e l) (setAt e r) k i)
+              [ inl j ↦ omega (arith, members-le e n down l (omega arith) k j) | inr j ↦ omega (arith, members-le e n down r (omega arith) k j) ]
 
   -- two sets of standard entries whose codes have one sum are equal
   pub standard-sets-same : (u w : ℕ) → StandardSet e n u → StandardSet e n w → xorOver (codeAt e) n u ≡ xorOver (codeAt e) n w → u ≡ w

@@ -91,13 +91,18 @@ module _ (e : ℕ → Entry) (n : ℕ) (down : Downward e n) where
   -- the representative of an entry of kind 1 to 3 is the first entry of its shape
   pub rep-first : (i : ℕ) → i < n → Plain e i → repAt e i ≡ first e i
   unfolding repAt
-  rep-first i h p = least-only (λ j. eqb (setAt e j) (setAt e i)) i (first e i) (first-le e i) (λ l. eq-eqb (setAt e (first e i)) (setAt e i) same-set) (λ j l. ne-eqb (setAt e j) (setAt e i) (λ q. lt-irrefl j (lower j l q)))
+  rep-first i h p =
+      least-only (λ j. eqb (setAt e j) (setAt e i)) i (first e i) (first-le e i) (λ l. eq-eqb (setAt e (first e i)) (setAt e i) same-set)
+      (λ j l. ne-eqb (setAt e j) (setAt e i) (λ q. lt-irrefl j (lower j l q)))
     where
       same-set : setAt e (first e i) ≡ setAt e i
       same-set = set-first e n down (first e i) (omega (arith, first-le e i)) (first-plain e i p) ∙ ap (λ (x : ℕ). 2 ^ x) (first-first e i) ∙ sym (set-first e n down i h p)
 
       lower : (j : ℕ) → j < first e i → setAt e j ≡ setAt e i → j < j
-      lower j l q = omega (arith, members-le j (omega (arith, first-le e i)) (first e i) (ap (λ (s : ℕ). member s (first e i)) (q ∙ set-first e n down i h p) ∙ member-single (first e i) (first e i) ∙ eq-eqb (first e i) (first e i) refl))
+      lower j l q = omega (arith, members-le j (omega (arith, first-le e i)) (first e i) own)
+        where
+          own : member (setAt e j) (first e i) ≡ true
+          own = ap (λ (s : ℕ). member s (first e i)) (q ∙ set-first e n down i h p) ∙ member-single (first e i) (first e i) ∙ eq-eqb (first e i) (first e i) refl
 
   -- a standard entry is the first of its shape
   pub standard-first : (i : ℕ) → i < n → (standard e i ≡ true) ↔ (Plain e i × (first e i ≡ i))

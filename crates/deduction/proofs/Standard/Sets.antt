@@ -48,7 +48,9 @@ module _ (e : ℕ → Entry) (n : ℕ) (down : Downward e n) where
   module _ (s s′ : ℕ → ℕ) (i : ℕ) (h : i < n) (agree : (j : ℕ) → j < i → s j ≡ s′ j) where
     first-agrees : firstAlike s e i ≡ firstAlike s′ e i
     unfolding firstAlike
-    first-agrees = least-same _ _ i (λ j l. ap₂ alike (shape-same s s′ (e j) (λ k m. agree k (omega (arith, down j k (omega arith) m)))) (shape-same s s′ (e i) (λ k m. agree k (down i k h m))))
+    first-agrees =
+        least-same _ _ i
+        (λ j l. ap₂ alike (shape-same s s′ (e j) (λ k m. agree k (omega (arith, down j k (omega arith) m)))) (shape-same s s′ (e i) (λ k m. agree k (down i k h m))))
 
     standard-agrees : standardSet s e i ≡ standardSet s′ e i
     unfolding standardSet
