@@ -36,9 +36,6 @@ sum-empty-same a b h = sym (sum-cancel-right a b) ∙ ap (λ (x : ℕ). bitXor x
 pub sum-move : (a b c : ℕ) → bitXor a b ≡ c → b ≡ bitXor a c
 sum-move a b c h = sym (sum-cancel a b) ∙ ap (bitXor a) h
 
-pub member-nonempty : (s e : ℕ) → member s e ≡ true → ¬ (s ≡ 0)
-member-nonempty s e m p = true≢false (sym m ∙ ap (λ (x : ℕ). member x e) p ∙ member-empty e)
-
 -- every member of a is one of b
 abbrev pub Inside : ℕ → ℕ → Type 0
 Inside a b = (e : ℕ) → member a e ≡ true → member b e ≡ true
