@@ -4,3 +4,4 @@ pub mod Words
 pub mod Top
 pub mod Bytes
 pub mod Choice
+pub mod Sums

@@ -1,6 +1,9 @@
+-- Reading order: the code of a term, equality decided by it, the terms of entries, exactness, elimination, the sets of standard entries.
 pub mod Coding
 pub mod Pieces
 pub mod Distinct
 pub mod Terms
 pub mod Exactness
+pub mod Elimination
+pub mod Standard
 pub mod Examples
