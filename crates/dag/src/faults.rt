@@ -3,9 +3,8 @@ ghost use mathlib.Core.Path.{_≡_};
 ghost use lib.ListN.{length};
 ghost use Rattle.dag.specs.Sheet.{countOf};
 ghost use Rattle.dag.specs.Refusal.{noSheet, badCount, shortList, badPairs, badRecord, badRecords, notListed, forwardItems, refusal};
-
-use crate::sheet;
 use crate::record;
+use crate::sheet;
 
 // Row 1, no sheet: the length and the four letters.
 pub fn no_sheet(s: &[u8]) -> u8

@@ -7,9 +7,9 @@ ghost use Rattle.dag.specs.Record.{kindOf, fits};
 ghost use Rattle.dag.specs.Refusal.{refusal};
 ghost use Rattle.dag.specs.Code.{codeOf};
 
-pub mod sheet;
-pub mod record;
 mod faults;
+pub mod record;
+pub mod sheet;
 
 // Document 01's ten refusals, and none.
 pub enum Refusal {

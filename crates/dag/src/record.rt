@@ -3,7 +3,6 @@ ghost use mathlib.Core.Path.{_≡_};
 ghost use lib.ListN.{length};
 ghost use Rattle.dag.specs.Sheet.{numberAt};
 ghost use Rattle.dag.specs.Record.{kindOf, fits, itemCount, itemAt};
-
 use crate::sheet;
 
 // The kind byte; 0 where there is none.

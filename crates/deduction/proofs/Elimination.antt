@@ -15,7 +15,7 @@ use lib.ListN.{length}
 use Rattle.bitset.specs.Set.{member, insert, leading}
 use Rattle.bitset.proofs.Laws.Member.{member-empty}
 use Rattle.bitset.proofs.Laws.Sums.{Inside, sum-move, ones-insert, insert-cases, below-members}
-use Rattle.deduction.specs.Elimination.{Row, Reduced, reduce, Knowledge, learn, learnAll, nothing, Span, NoLeading, xorOver, Independent}
+use Rattle.deduction.specs.Elimination.{Row, Reduced, reduce, Knowledge, learn, learnAs, learnAll, nothing, Span, NoLeading, xorOver, Independent}
 use Rattle.deduction.proofs.Elimination.Sums.{xorOver-empty, xorOver-span, span-xorOver, xorOver-lt}
 use Rattle.deduction.proofs.Elimination.Reduce.{pivot, reduce-both, reduce-none}
 use Rattle.deduction.proofs.Elimination.Leading.{leading-pivot}
@@ -35,7 +35,7 @@ learnt-all s n es below = learnAll-learnt es (nothing-learnt s n) below
 
 -- learning a known entry changes nothing
 pub learn-known : (s : ℕ → ℕ) (k : Knowledge) (e : ℕ) → member (k .known) e ≡ true → learn s k e ≡ k
-unfolding learn
+unfolding learnAs
 learn-known s k e h = kept (member (k .known) e) _ h
   where
     kept : (b : Bool) (x : Knowledge) → b ≡ true → cond b k x ≡ k

@@ -41,10 +41,14 @@ pub record Knowledge : Type 0 where
 unfoldable pub addRow : List Row → ℕ → Reduced → List Row
 addRow rows e x = cond (eqb (x .remainder) 0) rows (rows ++ (record { vector = x .remainder; uses = bitXor (x .used) (single e) } ∷ []))
 
--- learn the representative e, whose set is `s e`. "A sum rung draws on the gained terms that were not, when gained, a sum of those gained
+-- learn the representative e, whose set is v. "A sum rung draws on the gained terms that were not, when gained, a sum of those gained
 -- earlier": these are the entries with a row
-unfoldable pub learn : (ℕ → ℕ) → Knowledge → ℕ → Knowledge
-learn s k e = cond (member (k .known) e) k (record { known = insert (k .known) e; rows = addRow (k .rows) e (reduce (k .rows) (s e)) })
+unfoldable pub learnAs : Knowledge → ℕ → ℕ → Knowledge
+learnAs k e v = cond (member (k .known) e) k (record { known = insert (k .known) e; rows = addRow (k .rows) e (reduce (k .rows) v) })
+
+-- learn the representative e, by the table of sets
+abbrev pub learn : (ℕ → ℕ) → Knowledge → ℕ → Knowledge
+learn s k e = learnAs k e (s e)
 
 -- learn a list in order
 unfoldable pub learnAll : (ℕ → ℕ) → Knowledge → List ℕ → Knowledge

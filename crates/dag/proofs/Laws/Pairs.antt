@@ -24,14 +24,14 @@ module _ (s : List ℕ) (i : ℕ) where
   unfolding badPair
   pair-long n p h =
       when-yes 4
-        (or-no (ne-eqb (lengthAt s i) 0 n) (or-no (ap not (eq-eqb (offsetAt s i) (beginAt s i) p)) (lt-ltb (length s) (offsetAt s i + lengthAt s i) h)))
+      (or-no (ne-eqb (lengthAt s i) 0 n) (or-no (ap not (eq-eqb (offsetAt s i) (beginAt s i) p)) (lt-ltb (length s) (offsetAt s i + lengthAt s i) h)))
 
   pub pair-good : (lengthAt s i ≡ 0 → ⊥) → offsetAt s i ≡ beginAt s i → offsetAt s i + lengthAt s i ≤ length s → badPair s i ≡ 0
   unfolding badPair
   pair-good n p h =
       sym
       (when-no 4
-        (or-no (ne-eqb (lengthAt s i) 0 n) (or-no (ap not (eq-eqb (offsetAt s i) (beginAt s i) p)) (le-ltb (length s) (offsetAt s i + lengthAt s i) h))))
+      (or-no (ne-eqb (lengthAt s i) 0 n) (or-no (ap not (eq-eqb (offsetAt s i) (beginAt s i) p)) (le-ltb (length s) (offsetAt s i + lengthAt s i) h))))
 
 -- a bad pair is found
 pub pairs-found : (s : List ℕ) (i : ℕ) → i < countOf s → first (badPair s) i ≡ 0 → 4 ≡ badPair s i → 4 ≡ badPairs s
@@ -41,6 +41,7 @@ pairs-found s i h p q =
   where
     four : _≡_ {A = ℕ} 4 0 → ⊥
     four r = omega arith
+
     e : 4 ≡ first (badPair s) (countOf s)
     e = first-fault (badPair s) i (countOf s) 3 h p q
 

@@ -102,7 +102,7 @@ anyFrom-found i f j zero h l = absurd (omega arith)
 anyFrom-found i f j (suc n) h l =
     anyFrom-append i (listed f n) (f n)
     ∙ by-cases (decLt j n) (λ q. or-yes (leb i (f n)) (anyFrom-found i f j n q l))
-      (λ q. let e : j ≡ n = omega arith in ap (λ (b : Bool). anyFrom i (listed f n) || b) (le-leb i (f n) (le-trans l (le-of-eq (ap f e)))) ∙ or-true (anyFrom i (listed f n)))
+    (λ q. let e : j ≡ n = omega arith in ap (λ (b : Bool). anyFrom i (listed f n) || b) (le-leb i (f n) (le-trans l (le-of-eq (ap f e)))) ∙ or-true (anyFrom i (listed f n)))
 
 -- none of a list is i or more: each is below i
 pub anyFrom-none : (i : ℕ) (xs : List ℕ) → anyFrom i xs ≡ false → (j : ℕ) → List·Memᴰ j xs → j < i

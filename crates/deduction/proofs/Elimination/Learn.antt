@@ -16,7 +16,7 @@ use borrow.Author.Tests.{eqb-true, eqb-false}
 use Rattle.bitset.specs.Set.{member, insert}
 use Rattle.bitset.proofs.Laws.Member.{member-single}
 use Rattle.bitset.proofs.Laws.Sums.{member-part, member-new, member-old, insert-cases, insert-own, insert-old, ones-insert}
-use Rattle.deduction.specs.Elimination.{Reduced, reduce, Knowledge, addRow, learn, learnAll, Span, Independent}
+use Rattle.deduction.specs.Elimination.{Reduced, reduce, Knowledge, addRow, learn, learnAs, learnAll, Span, Independent}
 use Rattle.deduction.proofs.Elimination.Rows.{rowOf, one-more, rows-kept, row-own}
 use Rattle.deduction.proofs.Elimination.State.{Learnt, independent-learnt, zero-span, span-zero}
 
@@ -125,7 +125,7 @@ module _ {s : ℕ → ℕ} {n : ℕ} {es : List ℕ} {k : Knowledge} (l : Learnt
 
   -- learning one more entry
   pub learn-learnt : Learnt s n (es ++ (e ∷ [])) (learn s k e)
-  unfolding learn addRow
+  unfolding learnAs addRow
   learn-learnt = go (member (k .known) e) refl (eqb (reduce (k .rows) (s e) .remainder) 0) refl
     where
       again : member (k .known) e ≡ true → (x : ℕ) → (member (k .known) x ≡ true) ↔ List·Memᴰ x (es ++ (e ∷ []))
