@@ -2,3 +2,6 @@ pub mod Sheet
 pub mod Record
 pub mod Refusal
 pub mod Pairs
+pub mod Parts
+pub mod Table
+pub mod Good

@@ -10,10 +10,10 @@ use Rattle.dag.specs.Sheet.{letters, countOf, traceLength, goalOf, offse
 use Rattle.dag.specs.Record.{kindOf, fits, itemCount, itemAt, decode}
 
 -- the number k where the test holds, else 0; of two, the first that isn't 0; of f 0 .. f (n - 1), the first that isn't 0
-abbrev pub when : Bool → ℕ → ℕ
+unfoldable pub when : Bool → ℕ → ℕ
 when b k = cond b k 0
 
-abbrev pub orElse : ℕ → ℕ → ℕ
+unfoldable pub orElse : ℕ → ℕ → ℕ
 orElse zero b = b
 orElse (suc a) b = suc a
 

@@ -2,7 +2,7 @@
 use mathlib.Core.Path.{_≡_, refl, sym, ap, ap₂, _∙_}
 use mathlib.Core.Bool.{Bool, true, false, true≢false, not, cond, _&&_, _||_, or-false, or-true, or-assoc, and-false}
 use mathlib.Core.Logic.{⊎-elim, by-cases}
-use mathlib.Core.List.{List, [], _∷_, _++_, List·Memᴰ, List·Memᴰ·not-nil, List·Memᴰ·cases-cons}
+use mathlib.Core.List.{List, [], _∷_, _++_, List·Memᴰ, List·Memᴰ·not-nil, List·Memᴰ·cases-cons, List-discrete}
 use Prim.Native.Nat.{ℕ, zero, suc, _+_, _≤_, _<_}
 use native.Mathlib.Nat.{le-trans, le-of-eq, lt-of-le-of-lt}
 use native.Mathlib.Decide.{le-ind, decLt, ℕ-discrete}
@@ -21,24 +21,38 @@ pub or-no : {a b c : Bool} → a ≡ false → b ≡ c → (a || b) ≡ c
 or-no {a} {b} p q = ap (λ (x : Bool). x || b) p ∙ q
 
 pub when-yes : {b : Bool} (k : ℕ) → b ≡ true → k ≡ when b k
+unfolding when
 when-yes k p = sym (ap (λ (x : Bool). when x k) p)
 
 pub when-no : {b : Bool} (k : ℕ) → b ≡ false → 0 ≡ when b k
+unfolding when
 when-no k p = sym (ap (λ (x : Bool). when x k) p)
+
+pub when-zero : (b : Bool) (k : ℕ) → when b (suc k) ≡ 0 → b ≡ false
+unfolding when
+when-zero true k p = absurd (suc-not-zero p)
+  where
+    suc-not-zero : suc k ≡ 0 → ⊥
+    suc-not-zero q = omega arith
+when-zero false k p = refl
 
 -- of two, the second where the first is none, and the first where it is one
 pub orElse-none : (a b : ℕ) → a ≡ 0 → orElse a b ≡ b
+unfolding orElse
 orElse-none a b p = ap (λ (x : ℕ). orElse x b) p
 
 pub orElse-some : (a b : ℕ) → (a ≡ 0 → ⊥) → orElse a b ≡ a
+unfolding orElse
 orElse-some zero b n = absurd (n refl)
 orElse-some (suc a) b n = refl
 
-orElse-zero-left : (a b : ℕ) → orElse a b ≡ 0 → a ≡ 0
+pub orElse-zero-left : (a b : ℕ) → orElse a b ≡ 0 → a ≡ 0
+unfolding orElse
 orElse-zero-left zero b p = refl
 orElse-zero-left (suc a) b p = p
 
-orElse-zero-right : (a b : ℕ) → orElse a b ≡ 0 → b ≡ 0
+pub orElse-zero-right : (a b : ℕ) → orElse a b ≡ 0 → b ≡ 0
+unfolding orElse
 orElse-zero-right zero b p = p
 orElse-zero-right (suc a) b p = absurd (suc-not-zero p)
   where
@@ -128,3 +142,6 @@ equal-differs (x ∷ xs) (y ∷ ys) n =
     by-cases (ℕ-discrete x y)
     (λ p. ap (λ (b : Bool). eqb x y && b) (equal-differs xs ys (λ q. n (ap₂ (λ (z : ℕ) (zs : List ℕ). z ∷ zs) p q))) ∙ and-false (eqb x y))
     (λ m. ap (λ (b : Bool). b && equal xs ys) (ne-eqb x y m))
+
+pub equal-true : (xs ys : List ℕ) → equal xs ys ≡ true → xs ≡ ys
+equal-true xs ys p = by-cases (List-discrete ℕ-discrete xs ys) (λ q. q) (λ n. absurd (true≢false (sym p ∙ equal-differs xs ys n)))
