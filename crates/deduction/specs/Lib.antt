@@ -6,3 +6,5 @@ pub mod Entry
 pub mod Standard
 pub mod Within
 pub mod Elimination
+pub mod Step
+pub mod Run

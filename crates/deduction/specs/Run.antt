@@ -1,0 +1,135 @@
+-- The run: the next step found by a search, and steps made until the goal is known, nothing follows or the budget is used up.
+-- Defined: `nextNumber`, `nextStep`, `Verdict`, `Outcome`, `run`. That the search finds `IsNext` is a theorem (proofs/Steps/).
+use Prim.Native.Nat.{ℕ, zero, suc, _+_, _*_, _/_, _%_, min}
+use mathlib.Core.Bool.{Bool, true, false, cond, not, _&&_}
+use mathlib.Core.List.{List, [], _∷_, _++_}
+use lib.Dec.{eqb}
+use Rattle.bitset.specs.Set.{member}
+use Rattle.deduction.specs.Entry.{Entry, Zero, Atom, Pair, Enc, Sum}
+use Rattle.deduction.specs.Standard.{setAt, repAt}
+use Rattle.deduction.specs.Elimination.{Knowledge, reduce, learnAll, nothing}
+use Rattle.deduction.specs.Step.{Step, step, unused}
+
+-- what is known after learning the heads `es` in order
+unfoldable pub knowledge : (ℕ → Entry) → List ℕ → Knowledge
+knowledge e es = learnAll (setAt e) nothing es
+
+-- a step's place in the order as one number: head, then rule, then first source
+abbrev pub number : ℕ → ℕ → ℕ → ℕ
+number h r i = h * 65536 + r * 256 + i
+
+-- above every step's number
+abbrev pub noStep : ℕ
+noStep = 16777216
+
+-- The steps that follow, as numbers, for entries `e`, a known set g and a test whether an entry is a sum of known ones
+module _ (e : ℕ → Entry) (g : ℕ) where
+  -- the head h by rule r from i, unless h is known
+  unfoldable pub offer : ℕ → ℕ → ℕ → List ℕ
+  offer h r i = cond (member g h) [] (number h r i ∷ [])
+
+  -- what a known entry gives: its parts, or its message where its key is known
+  unfoldable pub opened : ℕ → Entry → List ℕ
+  opened i Zero = []
+  opened i (Atom a) = []
+  opened i (Pair l r) = offer (repAt e l) 1 i ++ offer (repAt e r) 2 i
+  opened i (Enc m k) = cond (member g (repAt e k)) (offer (repAt e m) 3 i) []
+  opened i (Sum items) = []
+
+  -- by which rule an unknown entry is built from known parts
+  unfoldable pub built : ℕ → Entry → List ℕ
+  built i Zero = []
+  built i (Atom a) = []
+  built i (Pair l r) = cond (member g (repAt e l) && member g (repAt e r)) (number i 4 (repAt e l) ∷ []) []
+  built i (Enc m k) = cond (member g (repAt e m) && member g (repAt e k)) (number i 5 (repAt e m) ∷ []) []
+  built i (Sum items) = []
+
+  module _ (isSum : ℕ → Bool) where
+    -- the steps that head i gives or is gained by
+    unfoldable pub offers : ℕ → List ℕ
+    offers i =
+        cond (eqb (repAt e i) i) (cond (member g i) (opened i (e i)) (built i (e i) ++ cond (isSum i) (number i 6 0 ∷ []) [])) []
+
+    -- of the first n entries
+    unfoldable pub allOffers : ℕ → List ℕ
+    allOffers zero = []
+    allOffers (suc n) = allOffers n ++ offers n
+
+-- the least of a list, and d where it is empty
+unfoldable pub leastOf : ℕ → List ℕ → ℕ
+leastOf d [] = d
+leastOf d (x ∷ xs) = min x (leastOf d xs)
+
+-- is entry i a sum of known ones?
+unfoldable pub isSumOf : (ℕ → Entry) → Knowledge → ℕ → Bool
+isSumOf e k i = eqb (reduce (k .rows) (setAt e i) .remainder) 0
+
+-- the number of the next step, and noStep where nothing follows
+unfoldable pub nextNumber : (ℕ → Entry) → ℕ → Knowledge → ℕ
+nextNumber e n k = leastOf noStep (allOffers e (k .known) (isSumOf e k) n)
+
+-- the second entry number in a record: a pair's right, an encryption's key
+unfoldable pub secondPart : Entry → ℕ
+secondPart Zero = 0
+secondPart (Atom a) = 0
+secondPart (Pair l r) = r
+secondPart (Enc m k) = k
+secondPart (Sum items) = 0
+
+-- the whole step of head h, rule r and first source i
+unfoldable pub expand : (ℕ → Entry) → Knowledge → ℕ → ℕ → ℕ → Step
+expand e k h zero i = step h zero i unused 0
+expand e k h (suc zero) i = step h 1 i unused 0
+expand e k h (suc (suc zero)) i = step h 2 i unused 0
+expand e k h (suc (suc (suc zero))) i = step h 3 i (repAt e (secondPart (e i))) 0
+expand e k h (suc (suc (suc (suc zero)))) i = step h 4 i (repAt e (secondPart (e h))) 0
+expand e k h (suc (suc (suc (suc (suc zero))))) i = step h 5 i (repAt e (secondPart (e h))) 0
+expand e k h (suc (suc (suc (suc (suc (suc r)))))) i = step h 6 unused unused (reduce (k .rows) (setAt e h) .used)
+
+-- the step of a number
+unfoldable pub stepAt : (ℕ → Entry) → Knowledge → ℕ → Step
+stepAt e k x = expand e k (x / 65536) (x / 256 % 256) (x % 256)
+
+-- "*reached* if the goal is gained ..; *out of reach* if it isn't and no rung follows; *stopped* if it isn't, exactly b rungs were made and
+-- another follows"
+pub data Verdict : Type 0 where
+  derivable underivable exhausted : Verdict
+
+-- a verdict, the steps made, and the heads known at the end in the order learnt
+pub record Outcome : Type 0 where
+  pub verdict : Verdict
+  pub steps : List Step
+  pub learnt : List ℕ
+
+unfoldable pub after : Step → Outcome → Outcome
+after s o = record { verdict = o .verdict; steps = s ∷ o .steps; learnt = o .learnt }
+
+-- "An entry, the goal too, is gained when its head is"
+unfoldable pub reached : (ℕ → Entry) → ℕ → Knowledge → Bool
+reached e goal k = member (k .known) (repAt e goal)
+
+-- the step that comes next
+unfoldable pub nextStep : (ℕ → Entry) → ℕ → List ℕ → Step
+nextStep e n es = stepAt e (knowledge e es) (nextNumber e n (knowledge e es))
+
+-- does a step follow, with the goal not known?
+unfoldable pub goesOn : (ℕ → Entry) → ℕ → ℕ → List ℕ → Bool
+goesOn e n goal es = not (reached e goal (knowledge e es)) && not (eqb (nextNumber e n (knowledge e es)) noStep)
+
+-- no step more is made: the goal is known, or nothing follows, or else the budget is used up
+unfoldable pub ended : (ℕ → Entry) → ℕ → ℕ → List ℕ → Outcome
+ended e n goal es =
+    record {
+      verdict = cond (reached e goal (knowledge e es)) derivable (cond (eqb (nextNumber e n (knowledge e es)) noStep) underivable exhausted);
+      steps = [];
+      learnt = es;
+    }
+
+-- "The work ends when the goal is gained, when no rung follows, or when the budget b .. is used up". The start is any list of heads
+unfoldable pub run : (ℕ → Entry) → ℕ → ℕ → ℕ → List ℕ → Outcome
+run e n goal zero es = ended e n goal es
+run e n goal (suc b) es =
+    elim (goesOn e n goal es) [
+      | true ↦ after (nextStep e n es) (run e n goal b (es ++ (nextStep e n es .head ∷ [])))
+      | false ↦ ended e n goal es
+    ]

@@ -1,0 +1,69 @@
+-- Steps (document 01: rungs): what follows from the known entries by one rule, and which step comes next.
+-- Defined: `Step`; `Follows`, the steps that the rules allow, over terms; `Before`, document 01's order; `IsNext`, the step that the order
+-- names; `Made`, a row of steps each of which was the next. Nothing here searches.
+use Prim.Native.Nat.{ℕ, _<_}
+use mathlib.Core.Path.{_≡_}
+use mathlib.Core.Bool.{true}
+use mathlib.Core.Logic.{_⊎_}
+use mathlib.Core.List.{List, [], _∷_, _++_, map, List·Memᴰ}
+use Rattle.bitset.specs.Set.{member}
+use Rattle.deduction.specs.Term.{Term, pair, enc, sumOf, _≈_}
+use Rattle.deduction.specs.Standard.{sumOfSet}
+
+-- "gained head, rule, first source, second source .. and a .. set of summed sources"
+pub record Step : Type 0 where
+  pub head : ℕ
+  pub rule : ℕ
+  pub first : ℕ
+  pub second : ℕ
+  pub set : ℕ
+
+abbrev pub step : ℕ → ℕ → ℕ → ℕ → ℕ → Step
+step h r i j u = record { head = h; rule = r; first = i; second = j; set = u }
+
+-- "A source not used is 65,535"
+abbrev pub unused : ℕ
+unused = 65535
+
+-- The entries' terms are `t`, there are n, and the heads known so far are `es`, in the order learnt
+module _ (t : ℕ → Term) (n : ℕ) where
+  -- "An entry's head is the lowest-numbered entry that is the same term"
+  abbrev pub Head : ℕ → Type 0
+  Head h = (h < n) × ((j : ℕ) → j < h → ¬ (t j ≈ t h))
+
+  module _ (es : List ℕ) where
+    abbrev pub Known : ℕ → Type 0
+    Known i = List·Memᴰ i es
+
+    -- a head that isn't known
+    abbrev pub Open : ℕ → Type 0
+    Open h = Head h × ¬ (Known h)
+
+    -- "the gained terms that were not, when gained, a sum of those gained earlier"
+    abbrev pub Drawn : ℕ → Type 0
+    Drawn j = (before after : List ℕ) × (es ≡ before ++ (j ∷ after)) × ((js : List ℕ) → ((i : ℕ) → List·Memᴰ i js → List·Memᴰ i before) → ¬ (t j ≈ sumOf (map t js)))
+
+    -- "Rule numbers: 1 split left, 2 split right, 3 open (a seal and its key), 4 join, 5 seal, 6 sum". "Sources are heads." "In open the first
+    -- source is the seal; in join and seal, the left or the message"
+    pub data Follows : Step → Type 0 where
+      first : {h i : ℕ} (b : Term) → Open h → Known i → t i ≈ pair (t h) b → Follows (step h 1 i unused 0)
+      second : {h i : ℕ} (a : Term) → Open h → Known i → t i ≈ pair a (t h) → Follows (step h 2 i unused 0)
+      decrypt : {h i j : ℕ} → Open h → Known i → Known j → t i ≈ enc (t h) (t j) → Follows (step h 3 i j 0)
+      join : {h i j : ℕ} → Open h → Known i → Known j → t h ≈ pair (t i) (t j) → Follows (step h 4 i j 0)
+      encrypt : {h i j : ℕ} → Open h → Known i → Known j → t h ≈ enc (t i) (t j) → Follows (step h 5 i j 0)
+      sum : {h : ℕ} (u : ℕ) → Open h → ((j : ℕ) → member u j ≡ true → Drawn j) → t h ≈ sumOfSet t n u → Follows (step h 6 unused unused u)
+
+-- "the lowest head .. The lowest rule number .. then the lowest first source"
+abbrev pub Before : Step → Step → Type 0
+Before a b = (a .head < b .head) ⊎ ((a .head ≡ b .head) × ((a .rule < b .rule) ⊎ ((a .rule ≡ b .rule) × (a .first < b .first))))
+
+module _ (t : ℕ → Term) (n : ℕ) where
+  -- "The next rung gains the lowest head that isn't gained and follows by one rule. The lowest rule number is used, then the lowest first
+  -- source"
+  abbrev pub IsNext : List ℕ → Step → Type 0
+  IsNext es s = Follows t n es s × ((r : Step) → Follows t n es r → ¬ (Before r s))
+
+  -- steps in a row, each the next where it was made
+  pub data Made : List ℕ → List Step → Type 0 where
+    none : {es : List ℕ} → Made es []
+    more : {es : List ℕ} {s : Step} {ss : List Step} → IsNext es s → Made (es ++ (s .head ∷ [])) ss → Made es (s ∷ ss)
