@@ -1,5 +1,8 @@
 // The refusals of sheets, on the built library: each row of the grounding table with its neighbours on both sides, several faults at
-// once to show the order, and many damaged sheets against a second reading of document 01's table, written here on its own.
+// once to show the order, and many damaged sheets against a second reading of document 01's table.
+
+mod sheets;
+use sheets::{damage, random_entries, refusal, sheet, Entry, Random};
 
 #[link(name = "dag", kind = "static")]
 extern "C" {
@@ -11,123 +14,6 @@ fn validate(sheet: &[u8]) -> u32 {
     unsafe { zuwendryk_validate(sheet.as_ptr(), sheet.len()) }
 }
 
-#[derive(Clone)]
-enum Entry {
-    Zero,
-    Atom(u16),
-    Pair(u16, u16),
-    Seal(u16, u16),
-    Sum(Vec<u16>),
-    Raw(Vec<u8>),
-}
-
-fn record(e: &Entry) -> Vec<u8> {
-    let numbers = |kind: u8, ns: &[u16]| {
-        let mut r = vec![kind];
-        for n in ns {
-            r.extend(n.to_be_bytes());
-        }
-        r
-    };
-    match e {
-        Entry::Zero => vec![0],
-        Entry::Atom(a) => numbers(1, &[*a]),
-        Entry::Pair(l, r) => numbers(2, &[*l, *r]),
-        Entry::Seal(m, k) => numbers(3, &[*m, *k]),
-        Entry::Sum(items) => numbers(4, items),
-        Entry::Raw(bytes) => bytes.clone(),
-    }
-}
-
-fn sheet(entries: &[Entry], heard: &[u16], goal: u16) -> Vec<u8> {
-    let records: Vec<Vec<u8>> = entries.iter().map(record).collect();
-    let mut s = b"SHT1".to_vec();
-    for n in [entries.len() as u16, heard.len() as u16, goal] {
-        s.extend(n.to_be_bytes());
-    }
-    let mut at = 10 + 4 * entries.len() + 2 * heard.len();
-    for r in &records {
-        s.extend((at as u16).to_be_bytes());
-        s.extend((r.len() as u16).to_be_bytes());
-        at += r.len();
-    }
-    for h in heard {
-        s.extend(h.to_be_bytes());
-    }
-    for r in &records {
-        s.extend(r);
-    }
-    s
-}
-
-// Document 01's table, read a second time. Row by row, with early answers and 64-bit numbers.
-fn expected(s: &[u8]) -> u32 {
-    let number = |i: usize| (s[i] as usize) * 256 + s[i + 1] as usize;
-    if s.len() < 10 || s.len() > 34444 || &s[..4] != b"SHT1" {
-        return 1;
-    }
-    let (n, h, goal) = (number(4), number(6), number(8));
-    if n < 1 || n > 256 || h > 256 || goal >= n {
-        return 2;
-    }
-    let records = 10 + 4 * n + 2 * h;
-    if s.len() < records {
-        return 3;
-    }
-    let mut at = records;
-    for i in 0..n {
-        let (offset, len) = (number(10 + 4 * i), number(12 + 4 * i));
-        if len == 0 || offset != at || offset + len > s.len() {
-            return 4;
-        }
-        at = offset + len;
-    }
-    if at < s.len() {
-        return 4;
-    }
-    for i in 0..n {
-        let (offset, len) = (number(10 + 4 * i), number(12 + 4 * i));
-        let good = match s[offset] {
-            0 => len == 1,
-            1 => len == 3,
-            2 | 3 => len == 5,
-            4 => len % 2 == 1 && (len - 1) / 2 <= 64,
-            _ => false,
-        };
-        if !good {
-            return 5;
-        }
-        if s[offset] >= 2 {
-            for p in (offset + 1..offset + len).step_by(2) {
-                if number(p) >= i {
-                    return 6;
-                }
-            }
-        }
-    }
-    for k in 0..h {
-        if number(10 + 4 * n + 2 * k) >= n {
-            return 7;
-        }
-    }
-    0
-}
-
-// A small generator (xorshift), so that every run tries the same sheets.
-struct Random(u64);
-
-impl Random {
-    fn next(&mut self) -> u64 {
-        self.0 ^= self.0 << 13;
-        self.0 ^= self.0 >> 7;
-        self.0 ^= self.0 << 17;
-        self.0
-    }
-    fn below(&mut self, n: u64) -> u64 {
-        self.next() % n
-    }
-}
-
 struct Count {
     passed: u32,
     failed: u32,
@@ -136,11 +22,11 @@ struct Count {
 impl Count {
     fn check(&mut self, what: &str, s: &[u8], want: u32) {
         let got = validate(s);
-        if got == want && expected(s) == want {
+        if got == want && refusal(s) == want {
             self.passed += 1;
         } else {
             self.failed += 1;
-            println!("{what}: library {got}, reading {}, wanted {want}", expected(s));
+            println!("{what}: library {got}, reading {}, wanted {want}", refusal(s));
         }
     }
 }
@@ -249,36 +135,10 @@ fn edges(c: &mut Count) {
 fn damaged(c: &mut Count) {
     let mut r = Random(0x9e3779b97f4a7c15);
     for _ in 0..200_000 {
-        let n = 1 + r.below(8) as usize;
-        let entries: Vec<Entry> = (0..n)
-            .map(|i| {
-                let mut part = || r.below((i + (i == 0) as usize) as u64 + (r.0 % 64 == 0) as u64) as u16;
-                let (a, b) = (part(), part());
-                match r.below(if i == 0 { 2 } else { 5 }) {
-                    0 => Entry::Zero,
-                    1 => Entry::Atom(r.below(4) as u16),
-                    2 => Entry::Pair(a, b),
-                    3 => Entry::Seal(a, b),
-                    _ => Entry::Sum((0..r.below(5)).map(|_| r.below(i as u64) as u16).collect()),
-                }
-            })
-            .collect();
-        let heard: Vec<u16> = (0..r.below(4)).map(|_| r.below(n as u64) as u16).collect();
-        let mut s = sheet(&entries, &heard, r.below(n as u64) as u16);
-        for _ in 0..r.below(4) {
-            let at = r.below(s.len() as u64) as usize;
-            match r.below(4) {
-                0 => s[at] = r.below(256) as u8,
-                1 => s[at] = s[at].wrapping_add(1),
-                2 => s.truncate(at),
-                _ => s.insert(at, r.below(3) as u8),
-            }
-            if s.is_empty() {
-                break;
-            }
-        }
-        let want = expected(&s);
-        c.check("a damaged sheet", &s, want);
+        let (entries, heard, goal) = random_entries(&mut r, 8);
+        let whole = sheet(&entries, &heard, goal);
+        let s = if r.below(8) == 0 { whole } else { damage(&mut r, whole) };
+        c.check("a damaged sheet", &s, refusal(&s));
     }
 }
 

@@ -1,0 +1,157 @@
+// Sheets as bytes, and a generator of random ones. Shared by the tests; it knows the format of document 01 and nothing of the library.
+
+#[derive(Clone, Debug)]
+pub enum Entry {
+    Zero,
+    Atom(u16),
+    Pair(u16, u16),
+    Seal(u16, u16),
+    Sum(Vec<u16>),
+    Raw(Vec<u8>),
+}
+
+pub fn record(e: &Entry) -> Vec<u8> {
+    let numbers = |kind: u8, ns: &[u16]| {
+        let mut r = vec![kind];
+        for n in ns {
+            r.extend(n.to_be_bytes());
+        }
+        r
+    };
+    match e {
+        Entry::Zero => vec![0],
+        Entry::Atom(a) => numbers(1, &[*a]),
+        Entry::Pair(l, r) => numbers(2, &[*l, *r]),
+        Entry::Seal(m, k) => numbers(3, &[*m, *k]),
+        Entry::Sum(items) => numbers(4, items),
+        Entry::Raw(bytes) => bytes.clone(),
+    }
+}
+
+pub fn sheet(entries: &[Entry], heard: &[u16], goal: u16) -> Vec<u8> {
+    let records: Vec<Vec<u8>> = entries.iter().map(record).collect();
+    let mut s = b"SHT1".to_vec();
+    for n in [entries.len() as u16, heard.len() as u16, goal] {
+        s.extend(n.to_be_bytes());
+    }
+    let mut at = 10 + 4 * entries.len() + 2 * heard.len();
+    for r in &records {
+        s.extend((at as u16).to_be_bytes());
+        s.extend((r.len() as u16).to_be_bytes());
+        at += r.len();
+    }
+    for h in heard {
+        s.extend(h.to_be_bytes());
+    }
+    for r in &records {
+        s.extend(r);
+    }
+    s
+}
+
+// A small generator (xorshift), so that every run tries the same sheets.
+pub struct Random(pub u64);
+
+impl Random {
+    pub fn next(&mut self) -> u64 {
+        self.0 ^= self.0 << 13;
+        self.0 ^= self.0 >> 7;
+        self.0 ^= self.0 << 17;
+        self.0
+    }
+    pub fn below(&mut self, n: u64) -> u64 {
+        self.next() % n
+    }
+}
+
+// A good sheet's entries and trace: at most `most` entries over a few atoms, so that equal terms and cancelling sums are common.
+pub fn random_entries(r: &mut Random, most: u64) -> (Vec<Entry>, Vec<u16>, u16) {
+    let n = 1 + r.below(most);
+    let entries = (0..n)
+        .map(|i| {
+            if i == 0 {
+                return if r.below(4) == 0 { Entry::Zero } else { Entry::Atom(r.below(3) as u16) };
+            }
+            let (a, b) = (r.below(i) as u16, r.below(i) as u16);
+            match r.below(10) {
+                0 => Entry::Zero,
+                1..=2 => Entry::Atom(r.below(4) as u16),
+                3..=4 => Entry::Pair(a, b),
+                5..=6 => Entry::Seal(a, b),
+                _ => Entry::Sum((0..r.below(5)).map(|_| r.below(i) as u16).collect()),
+            }
+        })
+        .collect();
+    let heard = (0..r.below(5)).map(|_| r.below(n) as u16).collect();
+    (entries, heard, r.below(n) as u16)
+}
+
+// A few bytes changed, cut off or put in.
+pub fn damage(r: &mut Random, mut s: Vec<u8>) -> Vec<u8> {
+    for _ in 0..1 + r.below(3) {
+        if s.is_empty() {
+            break;
+        }
+        let at = r.below(s.len() as u64) as usize;
+        match r.below(4) {
+            0 => s[at] = r.below(256) as u8,
+            1 => s[at] = s[at].wrapping_add(1),
+            2 => s.truncate(at),
+            _ => s.insert(at, r.below(3) as u8),
+        }
+    }
+    s
+}
+
+// Document 01's table, rows 1 to 7, read a second time: row by row, with early answers and 64-bit numbers.
+pub fn refusal(s: &[u8]) -> u32 {
+    let number = |i: usize| (s[i] as usize) * 256 + s[i + 1] as usize;
+    if s.len() < 10 || s.len() > 34444 || &s[..4] != b"SHT1" {
+        return 1;
+    }
+    let (n, h, goal) = (number(4), number(6), number(8));
+    if n < 1 || n > 256 || h > 256 || goal >= n {
+        return 2;
+    }
+    let records = 10 + 4 * n + 2 * h;
+    if s.len() < records {
+        return 3;
+    }
+    let mut at = records;
+    for i in 0..n {
+        let (offset, len) = (number(10 + 4 * i), number(12 + 4 * i));
+        if len == 0 || offset != at || offset + len > s.len() {
+            return 4;
+        }
+        at = offset + len;
+    }
+    if at < s.len() {
+        return 4;
+    }
+    for i in 0..n {
+        let (offset, len) = (number(10 + 4 * i), number(12 + 4 * i));
+        let good = match s[offset] {
+            0 => len == 1,
+            1 => len == 3,
+            2 | 3 => len == 5,
+            4 => len % 2 == 1 && (len - 1) / 2 <= 64,
+            _ => false,
+        };
+        if !good {
+            return 5;
+        }
+        if s[offset] >= 2 {
+            for p in (offset + 1..offset + len).step_by(2) {
+                if number(p) >= i {
+                    return 6;
+                }
+            }
+        }
+    }
+    for k in 0..h {
+        if number(10 + 4 * n + 2 * k) >= n {
+            return 7;
+        }
+    }
+    0
+}
