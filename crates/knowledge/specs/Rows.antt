@@ -1,6 +1,6 @@
 -- Basis rows in memory: eight words a row, four of its vector and four of its uses, in one list of words.
--- Defined: `wordsAt`, `rowAt`, `rowsOf`; `withoutRow`, a set with a row taken off; `SameOutside`, what a store keeps; `Remainders`, a table of
--- remainders. What rows are and what is done with them: Elimination.antt of `deduction`.
+-- Defined: `wordsAt`, `rowAt`, `rowsOf`; `withoutRow`, a set with a row taken off; `SameOutside`, what a store keeps.
+-- What rows are and what is done with them: specs/Elimination.antt of `deduction`.
 use Prim.Native.Nat.{ℕ, zero, suc, _+_, _*_, _≤_, _<_}
 use mathlib.Core.Path.{_≡_}
 use mathlib.Core.Bool.{cond}
@@ -9,7 +9,7 @@ use lib.Bits.{bitXor}
 use lib.ListN.{length, getD}
 use Rattle.bitset.specs.Set.{member, leading}
 use Rattle.bitset.specs.Words.{value}
-use Rattle.deduction.specs.Elimination.{Row, reduce}
+use Rattle.deduction.specs.Elimination.{Row}
 
 -- the four words from k on
 abbrev pub wordsAt : List ℕ → ℕ → List ℕ

@@ -1,5 +1,5 @@
-// The intruder's state: the known representatives as a set, and a basis of rows over the two-element field. The sum test reduces a set by
-// the rows. The contracts are equations with `deduction`'s specs/Elimination.antt.
+// What the intruder knows: a set of representatives, and a basis of rows over the field of two elements.
+// Each contract is an equation with the elimination that `deduction` defines (its specs/Elimination.antt).
 ghost use mathlib.Core.Path.{_≡_};
 ghost use Prim.Native.Nat.{ℕ, _+_, _*_, _≤_, _<_};
 ghost use mathlib.Core.Bool.{cond};
@@ -26,7 +26,7 @@ pub struct Reduced {
     pub used: [u64; 4],
 }
 
-// The known representatives and the number of rows after a learning.
+// What learning leaves beside the rows: the known representatives and the number of rows.
 pub struct Learnt {
     pub known: [u64; 4],
     pub len: usize,
@@ -56,53 +56,15 @@ pub fn uses(rows: &[u64; 2048], i: usize) -> [u64; 4]
     words(rows, 8 * i + 4)
 }
 
-// A set without a row, where it has the row's pivot.
-pub fn take_off(v: [u64; 4], row: [u64; 4], pivot: u8) -> [u64; 4]
-    ensures { λ r. ⌜ value r ≡ cond (member (value v) pivot) (bitXor (value v) (value row)) (value v) ⌝ }
-{
-    if bitset::member(v, pivot) {
-        return bitset::sum(v, row);
-    }
-    v
-}
-
-// Takes row i off the first n remainders.
-pub fn sweep(remainders: &mut [[u64; 4]; 256], n: usize, rows: &[u64; 2048], i: usize)
-    requires { ⌜ (length (now remainders) ≡ 256) × (n ≤ 256) × (length (now rows) ≡ 2048) × (i < 256) ⌝ }
-    ensures swept { λ r. ⌜ ((k : ℕ) → k < n → value (getD (now (remainders .exit)) k []) ≡ withoutRow (value (getD (now (remainders .entry)) k [])) (rowAt (now (rows .entry)) i)) ⌝ }
-    ensures kept { λ r. ⌜ SameOutside 0 n (now (remainders .entry)) (now (remainders .exit)) ⌝ }
-{
-    let row = vector(rows, i);
-    let pivot = bitset::leading(row);
-    let mut k: usize = 0;
-    while k < n {
-        let v = remainders[k];
-        let left = take_off(v, row, pivot);
-        remainders[k] = left;
-        k += 1;
-    }
-}
-
-// Writes the four words of s from at on.
-fn put(rows: &mut [u64; 2048], at: usize, s: [u64; 4])
-    requires { ⌜ (length (now rows) ≡ 2048) × (at + 4 ≤ 2048) ⌝ }
-    ensures { λ r. ⌜ wordsAt (now (rows .exit)) at ≡ s ⌝ }
-    ensures kept { λ r. ⌜ SameOutside at (at + 4) (now (rows .entry)) (now (rows .exit)) ⌝ }
-{
-    rows[at] = s[0];
-    rows[at + 1] = s[1];
-    rows[at + 2] = s[2];
-    rows[at + 3] = s[3];
-}
-
-// Row i taken off, where the remainder has its pivot.
+// One step of the sum test: row i taken off, if the remainder has its pivot.
 fn take_row(x: Reduced, rows: &[u64; 2048], i: usize) -> Reduced
     requires { ⌜ (length (now rows) ≡ 2048) × (i < 256) ⌝ }
     ensures { λ r. ⌜ reducedOf (r .remainder) (r .used) ≡ take-off (reducedOf (x .remainder) (x .used)) (rowAt (now (rows .entry)) i) ⌝ }
 {
     let row = vector(rows, i);
+    let pivot = bitset::leading(row);
     let remainder = x.remainder;
-    if bitset::member(remainder, bitset::leading(row)) {
+    if bitset::member(remainder, pivot) {
         let used = x.used;
         return Reduced {
             remainder: bitset::sum(remainder, row),
@@ -112,7 +74,7 @@ fn take_row(x: Reduced, rows: &[u64; 2048], i: usize) -> Reduced
     x
 }
 
-// The sum test: takes the first len rows off in order.
+// The sum test: takes the first len rows off v in order. It always hands back the exact remainder and the learnt entries used.
 pub fn reduce(rows: &[u64; 2048], len: usize, v: [u64; 4]) -> Reduced
     requires { ⌜ (length (now rows) ≡ 2048) × (len ≤ 256) ⌝ }
     ensures { λ r. ⌜ reducedOf (r .remainder) (r .used) ≡ reduce (rowsOf (now (rows .entry)) len) (value v) ⌝ }
@@ -130,6 +92,18 @@ pub fn reduce(rows: &[u64; 2048], len: usize, v: [u64; 4]) -> Reduced
     x
 }
 
+// Writes the four words of s from at on.
+fn put(rows: &mut [u64; 2048], at: usize, s: [u64; 4])
+    requires { ⌜ (length (now rows) ≡ 2048) × (at + 4 ≤ 2048) ⌝ }
+    ensures { λ r. ⌜ wordsAt (now (rows .exit)) at ≡ s ⌝ }
+    ensures kept { λ r. ⌜ SameOutside at (at + 4) (now (rows .entry)) (now (rows .exit)) ⌝ }
+{
+    rows[at] = s[0];
+    rows[at + 1] = s[1];
+    rows[at + 2] = s[2];
+    rows[at + 3] = s[3];
+}
+
 // Stores row at: its vector and the learnt entries whose sum it is.
 fn push(rows: &mut [u64; 2048], at: usize, vector: [u64; 4], uses: [u64; 4])
     requires { ⌜ (length (now rows) ≡ 2048) × (at < 256) ⌝ }
@@ -140,7 +114,8 @@ fn push(rows: &mut [u64; 2048], at: usize, vector: [u64; 4], uses: [u64; 4])
     put(rows, 8 * at + 4, uses);
 }
 
-// The inner function of `Knowledge::hear`, over the state taken apart: learns the representative e, whose set is set.
+// Learns the representative e, whose set is set, in a state taken apart. A known one changes nothing.
+// A new one joins the known set, and what the rows leave of its set, if anything, becomes a row.
 pub fn learn(known: [u64; 4], rows: &mut [u64; 2048], len: usize, e: u8, set: [u64; 4]) -> Learnt
     requires { ⌜ (length (now rows) ≡ 2048) × Room known len ⌝ }
     ensures state { λ r. ⌜ stateOf (r .known) (now (rows .exit)) (r .len) ≡ learnAs (stateOf known (now (rows .entry)) len) e (value set) ⌝ }
@@ -157,15 +132,13 @@ pub fn learn(known: [u64; 4], rows: &mut [u64; 2048], len: usize, e: u8, set: [u
         return Learnt { known: more, len };
     }
     let used = x.used;
-    push(
-        rows,
-        len,
-        remainder,
-        bitset::sum(used, bitset::singleton(e)),
-    );
+    let own = bitset::singleton(e);
+    let uses = bitset::sum(used, own);
+    let next = len + 1;
+    push(rows, len, remainder, uses);
     Learnt {
         known: more,
-        len: len + 1,
+        len: next,
     }
 }
 
@@ -183,7 +156,7 @@ impl Knowledge {
         }
     }
 
-    // "Hearing a term takes the listener's state and hands the enlarged one back": the entry e, whose set is set, is heard.
+    // "Hearing a term takes the listener's state and hands the enlarged one back": `learn` over the whole state.
     pub fn hear(mut self, e: u8, set: [u64; 4]) -> Self
         requires { ⌜ Room (self .known) (self .len) ⌝ }
         ensures state { λ r. ⌜ knowledgeOf r ≡ learnAs (knowledgeOf self) e (value set) ⌝ }
@@ -197,5 +170,32 @@ impl Knowledge {
         self.known = more;
         self.len = learnt.len;
         self
+    }
+}
+
+// A remainder without a row, if it has the row's pivot.
+pub fn take_off(v: [u64; 4], row: [u64; 4], pivot: u8) -> [u64; 4]
+    ensures { λ r. ⌜ value r ≡ cond (member (value v) pivot) (bitXor (value v) (value row)) (value v) ⌝ }
+{
+    if bitset::member(v, pivot) {
+        return bitset::sum(v, row);
+    }
+    v
+}
+
+// Takes row i off the first n remainders. What is left by the rows before row i becomes what is left with row i too.
+pub fn sweep(remainders: &mut [[u64; 4]; 256], n: usize, rows: &[u64; 2048], i: usize)
+    requires { ⌜ (length (now remainders) ≡ 256) × (n ≤ 256) × (length (now rows) ≡ 2048) × (i < 256) ⌝ }
+    ensures swept { λ r. ⌜ ((k : ℕ) → k < n → value (getD (now (remainders .exit)) k []) ≡ withoutRow (value (getD (now (remainders .entry)) k [])) (rowAt (now (rows .entry)) i)) ⌝ }
+    ensures kept { λ r. ⌜ SameOutside 0 n (now (remainders .entry)) (now (remainders .exit)) ⌝ }
+{
+    let row = vector(rows, i);
+    let pivot = bitset::leading(row);
+    let mut k: usize = 0;
+    while k < n {
+        let v = remainders[k];
+        let left = take_off(v, row, pivot);
+        remainders[k] = left;
+        k += 1;
     }
 }

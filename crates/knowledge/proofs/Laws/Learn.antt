@@ -1,14 +1,14 @@
 -- Learning an entry, by its three ways, and the room for its row. Assumes nothing.
-use mathlib.Core.Path.{_≡_, sym, ap, ap₂, _∙_}
+use mathlib.Core.Path.{_≡_, refl, sym, ap, ap₂, _∙_}
+use mathlib.Core.Logic.{_⊎_, inl, inr}
 use mathlib.Core.Bool.{Bool, true, false, cond}
 use mathlib.Core.List.{List, [], _∷_, _++_}
-use Prim.Native.Nat.{ℕ, suc, _+_, _*_, _^_, _≤_, _<_}
-use native.Mathlib.Nat.{le-trans, le-of-eq, lt-of-lt-of-le, lt-of-le-of-lt}
+use Prim.Native.Nat.{ℕ, _+_, _*_, _≤_, _<_}
 use native.Mathlib.Omega.{arith}
 use lib.Bits.{bitXor}
 use lib.Count.{ones, ones-le}
 use lib.Dec.{eqb}
-use lib.ListN.{length}
+use lib.ListN.{length, length-append}
 use Rattle.bitset.specs.Set.{member, insert, single}
 use Rattle.bitset.specs.Words.{value}
 use Rattle.bitset.proofs.Laws.Words.{Below}
@@ -17,7 +17,7 @@ use Rattle.bitset.proofs.Laws.Sums.{ones-insert}
 use Rattle.deduction.specs.Elimination.{Row, Reduced, Knowledge, reduce, addRow, learnAs}
 use Rattle.knowledge.specs.Rows.{rowAt, rowsOf, SameOutside}
 use Rattle.knowledge.specs.State.{stateOf, Room}
-use Rattle.knowledge.proofs.Laws.Rows.{rowsOf-more, rowsOf-kept}
+use Rattle.knowledge.proofs.Laws.Rows.{length-rowsOf, rowsOf-more, rowsOf-kept}
 
 -- a known entry changes nothing
 pub learn-again : (k : Knowledge) (e v : ℕ) → member (k .known) e ≡ true → k ≡ learnAs k e v
@@ -68,3 +68,29 @@ module _ (known more : List ℕ) (len e : ℕ) (new : member (value known) e ≡
   -- so there is a place for its row
   pub room-place : length more ≡ 4 → Below 64 more → len < 256
   room-place four small = omega (arith, room-more, ones-words more four small)
+
+-- the rows after learning: the same, or one more at the end
+pub learn-rows : (k : Knowledge) (e v : ℕ) → (learnAs k e v .rows ≡ k .rows) ⊎ ((r : Row) × (learnAs k e v .rows ≡ k .rows ++ (r ∷ [])))
+unfolding learnAs addRow
+learn-rows k e v = go (member (k .known) e) (eqb (reduce (k .rows) v .remainder) 0)
+  where
+    row : Row
+    row = record { vector = reduce (k .rows) v .remainder; uses = bitXor (reduce (k .rows) v .used) (single e) }
+
+    after : Bool → Bool → Knowledge
+    after a b = cond a k (record { known = insert (k .known) e; rows = cond b (k .rows) (k .rows ++ (row ∷ [])) })
+
+    go : (a b : Bool) → (after a b .rows ≡ k .rows) ⊎ ((r : Row) × (after a b .rows ≡ k .rows ++ (r ∷ [])))
+    go true b = inl refl
+    go false true = inl refl
+    go false false = inr (row, refl)
+
+-- so their number is the same, or one more
+pub learn-len : (known ws : List ℕ) (len e v : ℕ) (more vs : List ℕ) (next : ℕ) → stateOf more vs next ≡ learnAs (stateOf known ws len) e v → (next ≡ len) ⊎ (next ≡ len + 1)
+learn-len known ws len e v more vs next p = elim (learn-rows (stateOf known ws len) e v) [ inl q ↦ inl (counted q ∙ length-rowsOf ws len) | inr r ↦ inr (counted (r .1) ∙ one-more (r .0)) ]
+  where
+    counted : {rs : List Row} → learnAs (stateOf known ws len) e v .rows ≡ rs → next ≡ length rs
+    counted q = sym (length-rowsOf vs next) ∙ ap length (ap (λ (k : Knowledge). k .rows) p ∙ q)
+
+    one-more : (r : Row) → length (rowsOf ws len ++ (r ∷ [])) ≡ len + 1
+    one-more r = length-append (rowsOf ws len) (r ∷ []) ∙ ap (λ (n : ℕ). n + 1) (length-rowsOf ws len)

@@ -1,18 +1,16 @@
 -- `knowledge::learn` meets its contract, by its three ways: a known entry, a sum of known ones, and an entry with a row of its own.
-use mathlib.Core.Path.{_≡_, refl, sym, ap, ap₂, _∙_}
-use Prim.Native.Nat.{ℕ, _+_, _-_, _*_, _≤_, _<_}
+use mathlib.Core.Path.{_≡_, sym, ap, _∙_}
+use Prim.Native.Nat.{ℕ, _+_, _*_, _≤_, _<_}
 use native.Mathlib.Omega.{arith}
 use mathlib.Core.Bool.{false}
 use mir.Syntax.{w64}
 use mir.Val.{Fits}
-use lib.ListN.{length, getD}
+use lib.ListN.{getD}
 use lib.Bits.{bitXor}
 use borrow.Author.Needs.{needs}
 use denote.Ref.{now}
 use Rattle.bitset.specs.Set.{member, insert}
 use Rattle.bitset.specs.Words.{value}
-use Rattle.bitset.proofs.Laws.Words.{Below}
-use Rattle.deduction.specs.Elimination.{Reduced}
 use Rattle.knowledge.specs.State.{stateOf, reducedOf, Room}
 use Rattle.knowledge.proofs.Laws.Store.{same-refl}
 use Rattle.knowledge.proofs.Laws.Learn.{learn-again, state-sum, state-row, ones-words, room-more, room-place}
@@ -67,11 +65,11 @@ singleton-requires c κs = search needs
 sum-requires : tie.Need-sum-requires
 sum-requires c κs = search needs
 
+add-next : tie.Need-add-next
+add-next c = omega (arith, place (c .before .before .before .before .before .before .before .before))
+
 push-requires : tie.Need-push-requires
 push-requires c κs = let m = c .before .before .before .before .before .before .before .before .before in (m .before .before .before .pre .0, place m)
-
-add-t17 : tie.Need-add-t17
-add-t17 c = omega (arith, place (c .before .before .before .before .before .before .before .before .before .before))
 
 returns-3 : tie.Need-returns-3
 returns-3 c = let o = c .before .before .before .before .before in
@@ -81,7 +79,7 @@ returns-3 c = let o = c .before .before .before .before .before in
     let ws = now (s .args .rows) in
     let x = a .before .before .reduce in (
       state-row (s .args .known) ws (s .args .len) (s .args .e) (value (s .args .set)) (reducedOf (x .result .remainder) (x .result .used)) (new (m .before)) (x .ensures) (m .insert .result) (m .insert .ensures) (sym (a .is-empty .ensures) ∙ o .if2 .left) (c .push .last .0)
-          (c .push .ensures .0 ∙ ap (λ (n : ℕ). record { vector = value (x .result .remainder); uses = n }) (c .before .sum .ensures ∙ ap (bitXor (value (x .result .used))) (c .before .before .singleton .ensures))) (c .push .ensures .1),
+          (c .push .ensures .0 ∙ ap (λ (n : ℕ). record { vector = value (x .result .remainder); uses = n }) (c .before .before .sum .ensures ∙ ap (bitXor (value (x .result .used))) (c .before .before .before .singleton .ensures))) (c .push .ensures .1),
       (room m, c .push .ensures .1),
     )
 
@@ -97,6 +95,6 @@ learn-spec =
     returns-2
     singleton-requires
     sum-requires
+    add-next
     push-requires
-    add-t17
     returns-3)

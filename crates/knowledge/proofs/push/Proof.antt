@@ -1,9 +1,5 @@
 -- `knowledge::push` meets its contract: two stores of four words.
-use mathlib.Core.Path.{_≡_, refl, sym, ap, ap₂, _∙_}
-use Prim.Native.Nat.{ℕ, _+_, _-_, _*_, _≤_, _<_}
-use native.Mathlib.Omega.{arith}
 use borrow.Author.Needs.{needs}
-use denote.Ref.{now}
 use Rattle.knowledge.proofs.Laws.Rows.{row-stored, row-kept}
 use Rattle.knowledge.proofs.push.Statement.{statement}
 use Rattle.knowledge.proofs.push.Tie as tie

@@ -1,12 +1,11 @@
 -- `knowledge::reduce` meets its contract. The loop's invariant: the first i rows are taken off.
-use mathlib.Core.Path.{_≡_, refl, sym, ap, ap₂, _∙_}
-use Prim.Native.Nat.{ℕ, _+_, _-_, _*_, _≤_, _<_}
+use mathlib.Core.Path.{_≡_, sym, ap, _∙_}
+use Prim.Native.Nat.{ℕ, _-_, _≤_}
 use native.Mathlib.Omega.{arith}
-use lib.ListN.{length}
 use borrow.Author.Needs.{needs}
 use denote.Ref.{now}
 use Rattle.bitset.specs.Words.{value}
-use Rattle.deduction.specs.Elimination.{Reduced, Row, reduce, take-off}
+use Rattle.deduction.specs.Elimination.{Reduced, reduce, take-off}
 use Rattle.knowledge.specs.Rows.{rowAt, rowsOf}
 use Rattle.knowledge.specs.State.{reducedOf}
 use Rattle.knowledge.proofs.Laws.Rows.{reduce-first, reduce-next}

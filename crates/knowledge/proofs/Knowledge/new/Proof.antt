@@ -1,5 +1,5 @@
 -- `Knowledge::new` meets its contract: no row and no known entry.
-use mathlib.Core.Path.{_≡_, refl, sym, ap, ap₂, _∙_}
+use mathlib.Core.Path.{refl, ap}
 use Prim.Native.Nat.{ℕ}
 use mathlib.Core.List.{[]}
 use borrow.Author.Needs.{needs}
