@@ -1,0 +1,201 @@
+// What the intruder knows: a set of representatives, and a basis of rows over the field of two elements.
+// Each contract is an equation with the elimination that `deduction` defines (its specs/Elimination.antt).
+ghost use mathlib.Core.Path.{_≡_};
+ghost use Prim.Native.Nat.{ℕ, _+_, _*_, _≤_, _<_};
+ghost use mathlib.Core.Bool.{cond};
+ghost use mathlib.Core.List.{[]};
+ghost use lib.Bits.{bitXor};
+ghost use lib.ListN.{length, getD, replicate};
+ghost use Rattle.bitset.specs.Set.{member};
+ghost use Rattle.bitset.specs.Words.{value};
+ghost use Rattle.deduction.specs.Elimination.{reduce, learnAs, nothing, take-off};
+ghost use Rattle.knowledge.specs.Rows.{wordsAt, rowAt, rowsOf, withoutRow, SameOutside};
+ghost use Rattle.knowledge.specs.State.{stateOf, knowledgeOf, reducedOf, Room};
+
+// What the intruder knows: the known representatives, and the basis rows in the order learnt.
+// Row i is the eight words from 8 * i on: four of its vector, four of the learnt entries whose sum it is.
+pub struct Knowledge {
+    pub known: [u64; 4],
+    pub rows: [u64; 2048],
+    pub len: usize,
+}
+
+// What is left of a set, and the learnt entries used.
+pub struct Reduced {
+    pub remainder: [u64; 4],
+    pub used: [u64; 4],
+}
+
+// What learning leaves beside the rows: the known representatives and the number of rows.
+pub struct Learnt {
+    pub known: [u64; 4],
+    pub len: usize,
+}
+
+// The four words from at on.
+fn words(rows: &[u64; 2048], at: usize) -> [u64; 4]
+    requires { ⌜ (length (now rows) ≡ 2048) × (at + 4 ≤ 2048) ⌝ }
+    ensures { λ r. ⌜ r ≡ wordsAt (now (rows .entry)) at ⌝ }
+{
+    [rows[at], rows[at + 1], rows[at + 2], rows[at + 3]]
+}
+
+// The set of row i.
+pub fn vector(rows: &[u64; 2048], i: usize) -> [u64; 4]
+    requires { ⌜ (length (now rows) ≡ 2048) × (i < 256) ⌝ }
+    ensures { λ r. ⌜ r ≡ wordsAt (now (rows .entry)) (8 * i) ⌝ }
+{
+    words(rows, 8 * i)
+}
+
+// The learnt entries whose sum row i is.
+pub fn uses(rows: &[u64; 2048], i: usize) -> [u64; 4]
+    requires { ⌜ (length (now rows) ≡ 2048) × (i < 256) ⌝ }
+    ensures { λ r. ⌜ r ≡ wordsAt (now (rows .entry)) (8 * i + 4) ⌝ }
+{
+    words(rows, 8 * i + 4)
+}
+
+// One step of the sum test: row i taken off, if the remainder has its pivot.
+fn take_row(x: Reduced, rows: &[u64; 2048], i: usize) -> Reduced
+    requires { ⌜ (length (now rows) ≡ 2048) × (i < 256) ⌝ }
+    ensures { λ r. ⌜ reducedOf (r .remainder) (r .used) ≡ take-off (reducedOf (x .remainder) (x .used)) (rowAt (now (rows .entry)) i) ⌝ }
+{
+    let row = vector(rows, i);
+    let pivot = bitset::leading(row);
+    let remainder = x.remainder;
+    if bitset::member(remainder, pivot) {
+        let used = x.used;
+        return Reduced {
+            remainder: bitset::sum(remainder, row),
+            used: bitset::sum(used, uses(rows, i)),
+        };
+    }
+    x
+}
+
+// The sum test: takes the first len rows off v in order. It always hands back the exact remainder and the learnt entries used.
+pub fn reduce(rows: &[u64; 2048], len: usize, v: [u64; 4]) -> Reduced
+    requires { ⌜ (length (now rows) ≡ 2048) × (len ≤ 256) ⌝ }
+    ensures { λ r. ⌜ reducedOf (r .remainder) (r .used) ≡ reduce (rowsOf (now (rows .entry)) len) (value v) ⌝ }
+{
+    let mut x = Reduced {
+        remainder: v,
+        used: bitset::empty(),
+    };
+    let mut i: usize = 0;
+    while i < len {
+        let y = take_row(x, rows, i);
+        x = y;
+        i += 1;
+    }
+    x
+}
+
+// Writes the four words of s from at on.
+fn put(rows: &mut [u64; 2048], at: usize, s: [u64; 4])
+    requires { ⌜ (length (now rows) ≡ 2048) × (at + 4 ≤ 2048) ⌝ }
+    ensures { λ r. ⌜ wordsAt (now (rows .exit)) at ≡ s ⌝ }
+    ensures kept { λ r. ⌜ SameOutside at (at + 4) (now (rows .entry)) (now (rows .exit)) ⌝ }
+{
+    rows[at] = s[0];
+    rows[at + 1] = s[1];
+    rows[at + 2] = s[2];
+    rows[at + 3] = s[3];
+}
+
+// Stores row at: its vector and the learnt entries whose sum it is.
+fn push(rows: &mut [u64; 2048], at: usize, vector: [u64; 4], uses: [u64; 4])
+    requires { ⌜ (length (now rows) ≡ 2048) × (at < 256) ⌝ }
+    ensures row { λ r. ⌜ rowAt (now (rows .exit)) at ≡ record { vector = value vector; uses = value uses } ⌝ }
+    ensures kept { λ r. ⌜ SameOutside (8 * at) (8 * (at + 1)) (now (rows .entry)) (now (rows .exit)) ⌝ }
+{
+    put(rows, 8 * at, vector);
+    put(rows, 8 * at + 4, uses);
+}
+
+// Learns the representative e, whose set is set, in a state taken apart. A known one changes nothing.
+// A new one joins the known set, and what the rows leave of its set, if anything, becomes a row.
+pub fn learn(known: [u64; 4], rows: &mut [u64; 2048], len: usize, e: u8, set: [u64; 4]) -> Learnt
+    requires { ⌜ (length (now rows) ≡ 2048) × Room known len ⌝ }
+    ensures state { λ r. ⌜ stateOf (r .known) (now (rows .exit)) (r .len) ≡ learnAs (stateOf known (now (rows .entry)) len) e (value set) ⌝ }
+    ensures room { λ r. ⌜ Room (r .known) (r .len) ⌝ }
+    ensures kept { λ r. ⌜ SameOutside (8 * len) (8 * r .len) (now (rows .entry)) (now (rows .exit)) ⌝ }
+{
+    if bitset::member(known, e) {
+        return Learnt { known, len };
+    }
+    let more = bitset::insert(known, e);
+    let x = reduce(rows, len, set);
+    let remainder = x.remainder;
+    if bitset::is_empty(remainder) {
+        return Learnt { known: more, len };
+    }
+    let used = x.used;
+    let own = bitset::singleton(e);
+    let uses = bitset::sum(used, own);
+    let next = len + 1;
+    push(rows, len, remainder, uses);
+    Learnt {
+        known: more,
+        len: next,
+    }
+}
+
+impl Knowledge {
+    // Nothing known.
+    pub fn new() -> Self
+        ensures state { λ r. ⌜ knowledgeOf r ≡ nothing ⌝ }
+        ensures words { λ r. ⌜ r .rows ≡ replicate 2048 0 ⌝ }
+        ensures room { λ r. ⌜ Room (r .known) (r .len) ⌝ }
+    {
+        Knowledge {
+            known: bitset::empty(),
+            rows: [0; 2048],
+            len: 0,
+        }
+    }
+
+    // "Hearing a term takes the listener's state and hands the enlarged one back": `learn` over the whole state.
+    pub fn hear(mut self, e: u8, set: [u64; 4]) -> Self
+        requires { ⌜ Room (self .known) (self .len) ⌝ }
+        ensures state { λ r. ⌜ knowledgeOf r ≡ learnAs (knowledgeOf self) e (value set) ⌝ }
+        ensures room { λ r. ⌜ Room (r .known) (r .len) ⌝ }
+        ensures kept { λ r. ⌜ SameOutside (8 * self .len) (8 * r .len) (self .rows) (r .rows) ⌝ }
+    {
+        let known = self.known;
+        let len = self.len;
+        let learnt = learn(known, &mut self.rows, len, e, set);
+        let more = learnt.known;
+        self.known = more;
+        self.len = learnt.len;
+        self
+    }
+}
+
+// A remainder without a row, if it has the row's pivot.
+pub fn take_off(v: [u64; 4], row: [u64; 4], pivot: u8) -> [u64; 4]
+    ensures { λ r. ⌜ value r ≡ cond (member (value v) pivot) (bitXor (value v) (value row)) (value v) ⌝ }
+{
+    if bitset::member(v, pivot) {
+        return bitset::sum(v, row);
+    }
+    v
+}
+
+// Takes row i off the first n remainders. What is left by the rows before row i becomes what is left with row i too.
+pub fn sweep(remainders: &mut [[u64; 4]; 256], n: usize, rows: &[u64; 2048], i: usize)
+    requires { ⌜ (length (now remainders) ≡ 256) × (n ≤ 256) × (length (now rows) ≡ 2048) × (i < 256) ⌝ }
+    ensures swept { λ r. ⌜ ((k : ℕ) → k < n → value (getD (now (remainders .exit)) k []) ≡ withoutRow (value (getD (now (remainders .entry)) k [])) (rowAt (now (rows .entry)) i)) ⌝ }
+    ensures kept { λ r. ⌜ SameOutside 0 n (now (remainders .entry)) (now (remainders .exit)) ⌝ }
+{
+    let row = vector(rows, i);
+    let pivot = bitset::leading(row);
+    let mut k: usize = 0;
+    while k < n {
+        let v = remainders[k];
+        let left = take_off(v, row, pivot);
+        remainders[k] = left;
+        k += 1;
+    }
+}
