@@ -2,6 +2,7 @@
 // Terms are nested sets (a sum in normal form is the set of its pieces), sums are tried over all subsets, and on the smallest sheets the
 // claim "out of reach" is tried against everything that can be made off the sheet up to a size. It shares no code with the library.
 
+#[allow(dead_code)] // each test uses a part
 mod sheets;
 use sheets::{damage, random_entries, refusal, sheet, Entry, Random};
 use std::collections::BTreeSet;

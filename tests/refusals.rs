@@ -1,6 +1,7 @@
 // The refusals of sheets, on the built library: each row of the grounding table with its neighbours on both sides, several faults at
 // once to show the order, and many damaged sheets against a second reading of document 01's table.
 
+#[allow(dead_code)] // each test uses a part
 mod sheets;
 use sheets::{damage, random_entries, refusal, sheet, Entry, Random};
 
