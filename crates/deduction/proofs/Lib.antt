@@ -6,4 +6,5 @@ pub mod Terms
 pub mod Exactness
 pub mod Elimination
 pub mod Standard
+pub mod Steps
 pub mod Examples

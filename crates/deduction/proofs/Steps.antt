@@ -1,0 +1,5 @@
+-- Steps.
+pub mod Heads
+pub mod Numbers
+pub mod Drawn
+pub mod Offers
