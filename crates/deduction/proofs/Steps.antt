@@ -3,3 +3,4 @@ pub mod Heads
 pub mod Numbers
 pub mod Drawn
 pub mod Offers
+pub mod Found
