@@ -4,3 +4,5 @@ pub mod Numbers
 pub mod Drawn
 pub mod Offers
 pub mod Found
+pub mod Order
+pub mod Next
