@@ -6,3 +6,4 @@ pub mod Offers
 pub mod Found
 pub mod Order
 pub mod Next
+pub mod Closed
