@@ -7,3 +7,5 @@ pub mod Found
 pub mod Order
 pub mod Next
 pub mod Closed
+pub mod Held
+pub mod Replay

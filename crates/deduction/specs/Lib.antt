@@ -8,3 +8,4 @@ pub mod Within
 pub mod Elimination
 pub mod Step
 pub mod Run
+pub mod Replay
