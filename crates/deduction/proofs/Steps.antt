@@ -9,3 +9,4 @@ pub mod Next
 pub mod Closed
 pub mod Held
 pub mod Replay
+pub mod Run
