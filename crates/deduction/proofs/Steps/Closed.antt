@@ -15,7 +15,7 @@ use Rattle.deduction.proofs.Elimination.{used-independent}
 use Rattle.deduction.proofs.Elimination.State.{Learnt}
 use Rattle.deduction.proofs.Standard.{rep-same}
 use Rattle.deduction.proofs.Standard.SumTest.{sum-test, sum-test-used}
-use Rattle.deduction.proofs.Steps.Heads.{Heads, rep-below, rep-is-head}
+use Rattle.deduction.proofs.Steps.Head.{Heads, rep-below, rep-is-head}
 use Rattle.deduction.proofs.Steps.Drawn.{drawn-independent}
 use Rattle.deduction.proofs.Steps.Next.{knowledge-learnt}
 

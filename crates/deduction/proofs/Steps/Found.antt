@@ -21,7 +21,7 @@ use Rattle.deduction.proofs.Elimination.State.{Learnt}
 use Rattle.deduction.proofs.Standard.{rep-le, rep-same}
 use Rattle.deduction.proofs.Standard.First.{both-true}
 use Rattle.deduction.proofs.Standard.SumTest.{sum-test-used}
-use Rattle.deduction.proofs.Steps.Heads.{rep-is-head, rep-head}
+use Rattle.deduction.proofs.Steps.Head.{rep-is-head, rep-head}
 use Rattle.deduction.proofs.Steps.Numbers.{numberOf, number-head, number-rule, number-first, chosen}
 use Rattle.deduction.proofs.Steps.Drawn.{drawn-independent}
 

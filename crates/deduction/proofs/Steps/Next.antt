@@ -12,7 +12,7 @@ use Rattle.deduction.specs.Step.{Step, Open, Follows, Before, IsNext}
 use Rattle.deduction.specs.Run.{knowledge, noStep, allOffers, leastOf, isSumOf, nextNumber, expand, stepAt, nextStep}
 use Rattle.deduction.proofs.Elimination.{learnt-all}
 use Rattle.deduction.proofs.Elimination.State.{Learnt}
-use Rattle.deduction.proofs.Steps.Heads.{Heads}
+use Rattle.deduction.proofs.Steps.Head.{Heads}
 use Rattle.deduction.proofs.Steps.Numbers.{numberOf, least-under, least-one}
 use Rattle.deduction.proofs.Steps.Offers.{follows-offered, follows-expand}
 use Rattle.deduction.proofs.Steps.Found.{offered-found}

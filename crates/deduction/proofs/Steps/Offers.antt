@@ -20,7 +20,7 @@ use Rattle.deduction.specs.Step.{Step, step, unused, Open, Follows}
 use Rattle.deduction.specs.Run.{number, offer, opened, built, offers, allOffers, isSumOf, secondPart, expand, stepAt}
 use Rattle.deduction.proofs.Elimination.State.{Learnt}
 use Rattle.deduction.proofs.Standard.SumTest.{sum-test-unique}
-use Rattle.deduction.proofs.Steps.Heads.{Heads, head-rep, rep-of, pair-record, enc-record}
+use Rattle.deduction.proofs.Steps.Head.{Heads, head-rep, rep-of, pair-record, enc-record}
 use Rattle.deduction.proofs.Steps.Numbers.{numberOf, choose, choose-not}
 use Rattle.deduction.proofs.Steps.Drawn.{drawn-independent}
 

@@ -4,7 +4,7 @@
 use mathlib.Core.Path.{_≡_, refl, sym, ap, _∙_, subst}
 use mathlib.Core.Bool.{Bool, true, false, cond}
 use mathlib.Core.Logic.{_↔_, _⊎_, inl, inr}
-use mathlib.Core.List.{List, [], _∷_, _++_, map, List·Memᴰ, List·Memᴰ·head, List·Memᴰ·tail, List·Memᴰ·not-nil, List·Memᴰ·cases-cons, List·Memᴰ·append-cases, List·Memᴰ·eq-of-singleton, Memᴰ·append-right}
+use mathlib.Core.List.{List, [], _∷_, _++_, map, List·Memᴰ, List·Memᴰ·head, List·Memᴰ·tail, List·Memᴰ·not-nil, List·Memᴰ·cases-cons, List·Memᴰ·append-cases, List·Memᴰ·eq-of-singleton, Memᴰ·append-left, Memᴰ·append-right, Memᴰ·map, Memᴰ·of-map}
 use Prim.Native.Nat.{ℕ, zero, suc, _<_}
 use Rattle.bitset.specs.Set.{member}
 use Rattle.deduction.specs.Term.{Term, 𝟎, _⊕_, pair, enc, sumOf, _≈_, same, flip, then}
@@ -55,6 +55,21 @@ module _ (t : ℕ → Term) where
   unfolding endState
   end-kept [] f = f
   end-kept (s ∷ ss) f = end-kept ss (keeps-newest (t (s .head)) (t (s .head)) same f)
+
+  -- from the terms of entries: exactly their terms and those of the gained heads
+  pub end-exact : (es : List ℕ) (ss : List Step) (u : Term) → Holds (endState t (map t es) ss) u ↔ ((i : ℕ) × List·Memᴰ i (es ++ map (λ (s : Step). s .head) ss) × (t i ≈ u))
+  end-exact es ss u = (λ h. to (end-cases (map t es) ss u h), λ (i, m, q). held-same (from i (List·Memᴰ·append-cases es m)) q)
+    where
+      heads : List ℕ
+      heads = map (λ (s : Step). s .head) ss
+
+      to : Holds (map t es) u ⊎ ((s : Step) × List·Memᴰ s ss × (t (s .head) ≈ u)) → (i : ℕ) × List·Memᴰ i (es ++ heads) × (t i ≈ u)
+      to (inl (v, m, q)) = let (i, c, p) = Memᴰ·of-map t es m in (i, Memᴰ·append-left heads c, subst (λ (x : Term). x ≈ u) (sym p) q)
+      to (inr (s, m, q)) = (s .head, Memᴰ·append-right es (Memᴰ·map (λ (r : Step). r .head) m), q)
+
+      from : (i : ℕ) → List·Memᴰ i es ⊎ List·Memᴰ i heads → Holds (endState t (map t es) ss) (t i)
+      from i (inl m) = end-old (map t es) ss (t i) (t i, Memᴰ·map t m, same)
+      from i (inr m) = let (s, c, p) = Memᴰ·of-map (λ (r : Step). r .head) ss m in subst (λ (j : ℕ). Holds (endState t (map t es) ss) (t j)) p (end-new (map t es) ss s c)
 
   module _ (n : ℕ) where
     pub replays-end : {g a : List Term} {ss : List Step} → Replays t n g ss a → a ≡ endState t g ss

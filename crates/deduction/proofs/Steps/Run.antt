@@ -6,10 +6,10 @@ use mathlib.Core.Logic.{_⊎_, inl, inr}
 use mathlib.Core.List.{List, [], _∷_, _++_, map, append-nil, append-assoc, List·Memᴰ, List·Memᴰ·append-cases, List·Memᴰ·eq-of-singleton}
 use Prim.Native.Nat.{ℕ, zero, suc, _+_, _≤_, _<_}
 use native.Mathlib.Omega.{arith}
-use lib.Count.{ones}
+use lib.Count.{ones, ones-le}
 use lib.Dec.{eqb}
 use lib.ListN.{length}
-use borrow.Author.Tests.{eqb-false, not-true}
+use borrow.Author.Tests.{eqb-true, eqb-false, not-true}
 use Rattle.bitset.specs.Set.{member, insert}
 use Rattle.bitset.proofs.Laws.Sums.{ones-insert}
 use Rattle.deduction.specs.Entry.{Entry, termAt, Downward}
@@ -17,9 +17,9 @@ use Rattle.deduction.specs.Standard.{setAt, repAt}
 use Rattle.deduction.specs.Elimination.{Row, Knowledge, learnAs, nothing}
 use Rattle.deduction.specs.Step.{Step, Open, Follows, IsNext, Made}
 use Rattle.deduction.specs.Run.{knowledge, noStep, nextNumber, Verdict, derivable, underivable, exhausted, Outcome, after, reached, nextStep, goesOn, ended, run}
-use Rattle.deduction.proofs.Elimination.{learnAll-more}
+use Rattle.deduction.proofs.Elimination.{learnAll-more, known-below}
 use Rattle.deduction.proofs.Standard.First.{both-true}
-use Rattle.deduction.proofs.Steps.Heads.{Heads, head-rep}
+use Rattle.deduction.proofs.Steps.Head.{Heads, head-rep}
 use Rattle.deduction.proofs.Steps.Next.{follows-open, knowledge-learnt, next-isNext}
 
 -- the gained heads of steps
@@ -27,20 +27,38 @@ abbrev pub heads : List Step → List ℕ
 heads ss = map (λ (s : Step). s .head) ss
 
 -- what each verdict says of its two tests
-pub verdict-derivable : (a c : Bool) → cond a derivable (cond c underivable exhausted) ≡ derivable → a ≡ true
+verdict-derivable : (a c : Bool) → cond a derivable (cond c underivable exhausted) ≡ derivable → a ≡ true
 verdict-derivable true c p = refl
 verdict-derivable false true p = let z : _≡_ {A = ℕ} 0 1 = cc in absurd (omega arith)
 verdict-derivable false false p = let z : _≡_ {A = ℕ} 0 1 = cc in absurd (omega arith)
 
-pub verdict-underivable : (a c : Bool) → cond a derivable (cond c underivable exhausted) ≡ underivable → (a ≡ false) × (c ≡ true)
+verdict-underivable : (a c : Bool) → cond a derivable (cond c underivable exhausted) ≡ underivable → (a ≡ false) × (c ≡ true)
 verdict-underivable true c p = let z : _≡_ {A = ℕ} 0 1 = cc in absurd (omega arith)
 verdict-underivable false true p = (refl, refl)
 verdict-underivable false false p = let z : _≡_ {A = ℕ} 0 1 = cc in absurd (omega arith)
 
-pub verdict-exhausted : (a c : Bool) → cond a derivable (cond c underivable exhausted) ≡ exhausted → (a ≡ false) × (c ≡ false)
+verdict-exhausted : (a c : Bool) → cond a derivable (cond c underivable exhausted) ≡ exhausted → (a ≡ false) × (c ≡ false)
 verdict-exhausted true c p = let z : _≡_ {A = ℕ} 0 1 = cc in absurd (omega arith)
 verdict-exhausted false true p = let z : _≡_ {A = ℕ} 0 1 = cc in absurd (omega arith)
 verdict-exhausted false false p = (refl, refl)
+
+-- and so of the last state
+module _ (e : ℕ → Entry) (n goal : ℕ) (es : List ℕ) where
+  pub ended-derivable : ended e n goal es .verdict ≡ derivable → member (knowledge e es .known) (repAt e goal) ≡ true
+  unfolding ended reached
+  ended-derivable p = verdict-derivable (reached e goal (knowledge e es)) (eqb (nextNumber e n (knowledge e es)) noStep) p
+
+  pub ended-underivable : ended e n goal es .verdict ≡ underivable → (member (knowledge e es .known) (repAt e goal) ≡ false) × (nextNumber e n (knowledge e es) ≡ noStep)
+  unfolding ended reached
+  ended-underivable p =
+      let q = verdict-underivable (reached e goal (knowledge e es)) (eqb (nextNumber e n (knowledge e es)) noStep) p in
+      (q .0, eqb-true (nextNumber e n (knowledge e es)) noStep (q .1))
+
+  pub ended-exhausted : ended e n goal es .verdict ≡ exhausted → (member (knowledge e es .known) (repAt e goal) ≡ false) × (¬ (nextNumber e n (knowledge e es) ≡ noStep))
+  unfolding ended reached
+  ended-exhausted p =
+      let q = verdict-exhausted (reached e goal (knowledge e es)) (eqb (nextNumber e n (knowledge e es)) noStep) p in
+      (q .0, eqb-false (nextNumber e n (knowledge e es)) noStep (q .1))
 
 -- one more head, and the known set
 learn-new : (k : Knowledge) (h v : ℕ) → member (k .known) h ≡ false → learnAs k h v .known ≡ insert (k .known) h
@@ -69,6 +87,15 @@ module _ (e : ℕ → Entry) (n : ℕ) (down : Downward e n) where
       go : (b : Bool) → member (knowledge e es .known) h ≡ b → b ≡ false
       go false p = refl
       go true p = absurd (o .1 (knowledge-learnt e n down es hs .members h .0 p))
+
+  -- a step that follows adds one to the number of known heads, and there are at most n
+  pub count-more : (es : List ℕ) (s : Step) → Heads e n es → Follows (termAt e) n es s → ones (knowledge e (es ++ (s .head ∷ [])) .known) ≡ suc (ones (knowledge e es .known))
+  count-more es s hs f =
+      let new = open-unknown es (s .head) hs (follows-open e n f) in
+      ap ones (known-more e es (s .head) new) ∙ ones-insert (knowledge e es .known) (s .head) new
+
+  pub count-le : (es : List ℕ) → Heads e n es → ones (knowledge e es .known) ≤ n
+  count-le es hs = ones-le n (knowledge e es .known) (known-below (knowledge-learnt e n down es hs))
 
   -- the outcome o of a run with budget b from the heads es
   pub record Ran (goal b : ℕ) (es : List ℕ) (o : Outcome) : Type 0 where
@@ -110,17 +137,8 @@ module _ (e : ℕ → Entry) (n : ℕ) (down : Downward e n) where
           budget = let l = r .budget in omega arith;
           verdict = r .verdict;
           stopped = λ p. ap suc (r .stopped p);
-          count = total;
+          count = let c = r .count in omega (arith, count-more es s hs (f .0));
         }
-      where
-        new : member (knowledge e es .known) (s .head) ≡ false
-        new = open-unknown es (s .head) hs (follows-open e n (f .0))
-
-        one : ones (knowledge e (es ++ (s .head ∷ [])) .known) ≡ suc (ones (knowledge e es .known))
-        one = ap ones (known-more e es (s .head) new) ∙ ones-insert (knowledge e es .known) (s .head) new
-
-        total : ones (knowledge e es .known) + suc (length (o .steps)) ≡ ones (knowledge e (o .learnt) .known)
-        total = let c = r .count in omega (arith, one)
 
     module _ (small : n ≤ 256) where
       pub ran : (b : ℕ) (es : List ℕ) → Heads e n es → Ran goal b es (run e n goal b es)
