@@ -2,7 +2,7 @@
 -- Shown: the step made is the next one of document 01's order; the steps replay and extend a derivation from the start; there are at
 -- most n of them and at most the budget; each verdict says what document 01 says, and with a budget of at least n the verdict is
 -- underivable exactly when no derivation from the start holds the goal's term. Assumes nothing.
-use mathlib.Core.Path.{_≡_, refl, sym, ap, _∙_, subst}
+use mathlib.Core.Path.{_≡_, refl, sym, _∙_, subst}
 use mathlib.Core.Bool.{true, true≢false}
 use mathlib.Core.Logic.{_↔_}
 use mathlib.Core.List.{List, _++_, map, List·Memᴰ, Memᴰ·append-left, Memᴰ·map, Memᴰ·cast}
@@ -25,7 +25,6 @@ pub use Closed.{closed}
 pub use Replay.{replay-derivation, replay-derivable}
 pub use Start.{trace-heads, trace-derivable, trace-replays, trace-end}
 use Next.{knowledge-learnt}
-use Held.{Alike}
 use Replay.{end-exact, made-replays-from}
 use Run.{Ran, ran, count-more, count-le, heads-more, ended-derivable, ended-underivable, ended-exhausted}
 pub mod Head
@@ -84,8 +83,7 @@ module _ (e : ℕ → Entry) (n : ℕ) (down : Downward e n) where
     pub exhausted-exact : run e n goal b start .verdict ≡ exhausted
         → (length (run e n goal b start .steps) ≡ b) × (¬ (List·Memᴰ (repAt e goal) (run e n goal b start .learnt))) × ((s : Step) × Follows (termAt e) n (run e n goal b start .learnt) s)
     exhausted-exact p =
-        let q = ended-exhausted e n goal (run e n goal b start .learnt) (sym (whole .verdict) ∙ p) in
-        (
+        let q = ended-exhausted e n goal (run e n goal b start .learnt) (sym (whole .verdict) ∙ p) in (
           whole .stopped p,
           λ m. true≢false (sym (known-set (repAt e goal) .1 m) ∙ q .0),
           (nextStep e n (run e n goal b start .learnt), next-isNext e n down (run e n goal b start .learnt) learnt-heads small (q .1) .0),
@@ -109,7 +107,7 @@ module _ (e : ℕ → Entry) (n : ℕ) (down : Downward e n) where
       run-replays p = (
         made-replays start (run e n goal b start .steps) hs made,
         end-exact (termAt e) start (run e n goal b start .steps) (termAt e goal) .1
-        (repAt e goal, subst (λ (l : List ℕ). List·Memᴰ (repAt e goal) l) learnt-steps (derivable-known p), rep-same e n down goal low),
+            (repAt e goal, subst (λ (l : List ℕ). List·Memᴰ (repAt e goal) l) learnt-steps (derivable-known p), rep-same e n down goal low),
       )
 
       pub derivable-sound : run e n goal b start .verdict ≡ derivable → Derivable (map (termAt e) start) (termAt e goal)
@@ -142,3 +140,22 @@ module _ (e : ℕ → Entry) (n : ℕ) (down : Downward e n) where
           go d derivable p = p
           go d underivable p = absurd (underivable-exact p d)
           go d exhausted p = absurd (run-enough l p)
+
+  -- the same for a start of any entries heard, each learnt as its head: the replay and the derivations start from the terms heard
+  module _ (small : n ≤ 256) (goal b : ℕ) (trace : List ℕ) (below : (i : ℕ) → List·Memᴰ i trace → i < n) (low : goal < n) where
+    pub trace-run-replays : run e n goal b (map (repAt e) trace) .verdict ≡ derivable
+        → Replays (termAt e) n (map (termAt e) trace) (run e n goal b (map (repAt e) trace) .steps) (endState (termAt e) (map (termAt e) trace) (run e n goal b (map (repAt e) trace) .steps))
+        × Holds (endState (termAt e) (map (termAt e) trace) (run e n goal b (map (repAt e) trace) .steps)) (termAt e goal)
+    trace-run-replays p =
+        let (r, h) = run-replays small goal b (map (repAt e) trace) (trace-heads e n down trace below) low p in
+        (trace-replays e n down trace below (run e n goal b (map (repAt e) trace) .steps) .1 r, trace-end e n down trace below (run e n goal b (map (repAt e) trace) .steps) (termAt e goal) .1 h)
+
+    pub trace-underivable-exact : run e n goal b (map (repAt e) trace) .verdict ≡ underivable → ¬ Derivable (map (termAt e) trace) (termAt e goal)
+    trace-underivable-exact p d =
+        underivable-exact small goal b (map (repAt e) trace) (trace-heads e n down trace below) low p (trace-derivable e n down trace below (termAt e goal) .0 d)
+
+    pub trace-underivable-iff : n ≤ b → (run e n goal b (map (repAt e) trace) .verdict ≡ underivable) ↔ (¬ Derivable (map (termAt e) trace) (termAt e goal))
+    trace-underivable-iff l = (
+      trace-underivable-exact,
+      λ f. underivable-iff small goal b (map (repAt e) trace) (trace-heads e n down trace below) low l .1 (λ d. f (trace-derivable e n down trace below (termAt e goal) .1 d)),
+    )

@@ -1,10 +1,12 @@
--- Where no step follows, the known entries are closed under the six rules within the sheet. Assumes nothing.
+-- Where no step follows, the known entries are closed.
+-- Shown: an open head that is a sum of known ones follows by a sum of the entries that sums draw on; where nothing follows, the entries
+-- whose heads are known are closed under the six rules within the sheet. Assumes nothing.
 use mathlib.Core.Path.{_≡_, refl, sym, _∙_}
 use mathlib.Core.Bool.{Bool, true, false, true≢false}
 use mathlib.Core.List.{List, [], _∷_, map, List·Memᴰ, List·Memᴰ·head, List·Memᴰ·tail, Memᴰ·of-map, Memᴰ·cast}
 use Prim.Native.Nat.{ℕ, _<_}
 use Rattle.bitset.specs.Set.{member}
-use Rattle.deduction.specs.Term.{Term, pair, enc, sumOf, _≈_, in-pair, in-enc, in-sum, same, flip, then}
+use Rattle.deduction.specs.Term.{sumOf, _≈_, in-pair, in-enc, in-sum, same, flip, then}
 use Rattle.deduction.specs.Entry.{Entry, termAt, Downward}
 use Rattle.deduction.specs.Standard.{setAt, repAt}
 use Rattle.deduction.specs.Elimination.{reduce}
@@ -15,7 +17,7 @@ use Rattle.deduction.proofs.Elimination.{used-independent}
 use Rattle.deduction.proofs.Elimination.State.{Learnt}
 use Rattle.deduction.proofs.Standard.{rep-same}
 use Rattle.deduction.proofs.Standard.SumTest.{sum-test, sum-test-used}
-use Rattle.deduction.proofs.Steps.Head.{Heads, rep-below, rep-is-head}
+use Rattle.deduction.proofs.Steps.Head.{Heads, rep-is-head}
 use Rattle.deduction.proofs.Steps.Drawn.{drawn-independent}
 use Rattle.deduction.proofs.Steps.Next.{knowledge-learnt}
 

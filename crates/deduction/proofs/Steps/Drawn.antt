@@ -1,6 +1,7 @@
 -- The entries that sums draw on, said of terms and of sets.
--- Shown: an entry is no sum of those learnt before it, as a term, exactly when its set is in no span of theirs. Assumes nothing.
-use mathlib.Core.Path.{_≡_, refl, subst}
+-- Shown: a learnt entry's term is no sum of the terms learnt before it exactly when its set is not in the span of their sets.
+-- Assumes nothing.
+use mathlib.Core.Path.{_≡_, refl}
 use mathlib.Core.Logic.{_↔_}
 use mathlib.Core.List.{List, _∷_, _++_, List·Memᴰ, List·Memᴰ·head, Memᴰ·append-left, Memᴰ·append-right}
 use Prim.Native.Nat.{ℕ, _<_}

@@ -1,5 +1,6 @@
 -- Every number that the search goes through is the number of a step that follows.
--- Defined: `Found`, a number that decodes to a step that follows and has this number. Assumes nothing.
+-- Defined: `Found`, a number that stands for a step that follows and has this number.
+-- Shown: what a known entry gives is found, what an open one is built by is found, and so every offer is. Assumes nothing.
 use mathlib.Core.Path.{_≡_, refl, sym, ap, _∙_, subst}
 use mathlib.Core.Bool.{Bool, true, false, true≢false, cond, _&&_}
 use mathlib.Core.Logic.{_⊎_, inl, inr}
@@ -9,7 +10,7 @@ use native.Mathlib.Omega.{arith}
 use lib.Dec.{eqb}
 use borrow.Author.Tests.{eqb-true}
 use Rattle.bitset.specs.Set.{member}
-use Rattle.deduction.specs.Term.{Term, pair, enc, _≈_, in-pair, in-enc, same, flip, then}
+use Rattle.deduction.specs.Term.{pair, enc, _≈_, in-pair, in-enc, flip}
 use Rattle.deduction.specs.Entry.{Entry, Zero, Atom, Pair, Enc, Sum, build, termAt, parts, Downward}
 use Rattle.deduction.specs.Standard.{setAt, repAt}
 use Rattle.deduction.specs.Elimination.{Knowledge, reduce}

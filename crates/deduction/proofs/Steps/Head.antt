@@ -3,14 +3,13 @@
 -- Shown: a head is its own representative, and only then; heads with one term are equal, and the representative of an entry with a head's
 -- term is that head; a head that is a pair (an encryption) has the record of a pair (an encryption) with those parts. Assumes nothing.
 use mathlib.Core.Path.{_≡_, refl, sym, ap, _∙_, subst}
-use mathlib.Core.Bool.{true}
-use mathlib.Core.Logic.{_↔_, by-cases}
-use mathlib.Core.List.{List, map, List·Memᴰ, List·Memᴰ·head, List·Memᴰ·tail}
+use mathlib.Core.Logic.{by-cases}
+use mathlib.Core.List.{List, List·Memᴰ, List·Memᴰ·head, List·Memᴰ·tail}
 use Prim.Native.Nat.{ℕ, _<_}
 use native.Mathlib.Decide.{decLt}
 use native.Mathlib.Omega.{arith}
 use Rattle.bitset.specs.Set.{member}
-use Rattle.deduction.specs.Term.{Term, pair, enc, _≈_, flip, then}
+use Rattle.deduction.specs.Term.{Term, pair, enc, _≈_, flip}
 use Rattle.deduction.specs.Entry.{Entry, Zero, Atom, Pair, Enc, Sum, build, termAt, parts, Downward}
 use Rattle.deduction.specs.Standard.{shape, setAt, repAt}
 use Rattle.deduction.specs.Step.{Head}

@@ -13,9 +13,6 @@ Keeps g h = (u : Term) → Holds g u → Holds h u
 abbrev pub Alike : List Term → List Term → Type 0
 Alike g h = (u : Term) → Holds g u ↔ Holds h u
 
-pub alike : {g h : List Term} → Keeps g h → Keeps h g → Alike g h
-alike f f′ u = (f u, f′ u)
-
 -- what is held is held up to ≈, and stays held
 pub held-same : {g : List Term} {a b : Term} → Holds g a → a ≈ b → Holds g b
 held-same (u, m, p) q = (u, m, then p q)

@@ -1,7 +1,7 @@
 -- The step that the search finds is the next step.
 -- Shown: the search finds nothing exactly when nothing follows; what it finds follows, and nothing that follows comes before it; there is
 -- only one such step. Assumes nothing.
-use mathlib.Core.Path.{_≡_, refl, sym, ap, _∙_, subst}
+use mathlib.Core.Path.{_≡_, refl, sym, _∙_}
 use mathlib.Core.Logic.{_↔_, _⊎_, inl, inr}
 use mathlib.Core.List.{List, List·Memᴰ}
 use Prim.Native.Nat.{ℕ, _≤_, _<_}
@@ -9,14 +9,14 @@ use native.Mathlib.Omega.{arith}
 use Rattle.deduction.specs.Entry.{Entry, termAt, Downward}
 use Rattle.deduction.specs.Standard.{setAt}
 use Rattle.deduction.specs.Step.{Step, Open, Follows, Before, IsNext}
-use Rattle.deduction.specs.Run.{knowledge, noStep, allOffers, leastOf, isSumOf, nextNumber, expand, stepAt, nextStep}
+use Rattle.deduction.specs.Run.{knowledge, noStep, allOffers, isSumOf, nextNumber, expand, nextStep}
 use Rattle.deduction.proofs.Elimination.{learnt-all}
 use Rattle.deduction.proofs.Elimination.State.{Learnt}
 use Rattle.deduction.proofs.Steps.Head.{Heads}
 use Rattle.deduction.proofs.Steps.Numbers.{numberOf, least-under, least-one}
 use Rattle.deduction.proofs.Steps.Offers.{follows-offered, follows-expand}
 use Rattle.deduction.proofs.Steps.Found.{offered-found}
-use Rattle.deduction.proofs.Steps.Order.{Small, small-below, before-number, agree}
+use Rattle.deduction.proofs.Steps.Order.{Source, Small, small-below, before-number, agree}
 
 -- the gained head of a step that follows is open
 pub follows-open : (e : ℕ → Entry) (n : ℕ) {es : List ℕ} {s : Step} → Follows (termAt e) n es s → Open (termAt e) n es (s .head)
@@ -54,7 +54,7 @@ module _ (e : ℕ → Entry) (n : ℕ) (down : Downward e n) (es : List ℕ) (he
         rule (Follows.encrypt o m c q) = omega arith
         rule (Follows.sum u o g q) = omega arith
 
-        source : {r : Step} → Follows (termAt e) n es r → ((¬ (r .rule ≡ 6)) × (r .first < 256)) ⊎ ((r .rule ≡ 6) × (r .first ≡ 65535))
+        source : {r : Step} → Follows (termAt e) n es r → Source r
         source (Follows.first {i = i} b o m q) = inl (λ x. omega arith, known i m)
         source (Follows.second {i = i} a o m q) = inl (λ x. omega arith, known i m)
         source (Follows.decrypt {i = i} o m c q) = inl (λ x. omega arith, known i m)

@@ -2,22 +2,21 @@
 -- Shown: every step that follows is the expansion of its head, rule and first source, and its number is among the offers; every offer is
 -- the number of a step that follows. Assumes nothing.
 use mathlib.Core.Path.{_≡_, refl, sym, ap, ap₂, _∙_, subst}
-use mathlib.Core.Bool.{Bool, true, false, true≢false, false≢true, cond, _&&_}
-use mathlib.Core.Logic.{_⊎_, inl, inr, by-cases}
-use mathlib.Core.List.{List, [], _∷_, _++_, List·Memᴰ, List·Memᴰ·head, List·Memᴰ·not-nil, List·Memᴰ·append-cases, List·Memᴰ·eq-of-singleton, Memᴰ·append-left, Memᴰ·append-right, Memᴰ·cast}
-use Prim.Native.Nat.{ℕ, zero, suc, _≤_, _<_}
+use mathlib.Core.Bool.{Bool, true, false, _&&_}
+use mathlib.Core.Logic.{by-cases}
+use mathlib.Core.List.{List, List·Memᴰ, List·Memᴰ·head, Memᴰ·append-left, Memᴰ·append-right}
+use Prim.Native.Nat.{ℕ, zero, suc, _<_}
 use native.Mathlib.Nat.{not-suc-le-zero}
 use native.Mathlib.Decide.{decLt}
 use native.Mathlib.Omega.{arith}
-use lib.Dec.{eqb}
-use borrow.Author.Tests.{eqb-true, eq-eqb}
+use borrow.Author.Tests.{eq-eqb}
 use Rattle.bitset.specs.Set.{member}
-use Rattle.deduction.specs.Term.{Term, pair, enc, _≈_, in-pair, in-enc, same, flip, then}
-use Rattle.deduction.specs.Entry.{Entry, Zero, Atom, Pair, Enc, Sum, build, termAt, parts, Downward}
+use Rattle.deduction.specs.Term.{_≈_}
+use Rattle.deduction.specs.Entry.{Entry, Pair, Enc, termAt, Downward}
 use Rattle.deduction.specs.Standard.{setAt, repAt}
 use Rattle.deduction.specs.Elimination.{Knowledge, reduce}
 use Rattle.deduction.specs.Step.{Step, step, unused, Open, Follows}
-use Rattle.deduction.specs.Run.{number, offer, opened, built, offers, allOffers, isSumOf, secondPart, expand, stepAt}
+use Rattle.deduction.specs.Run.{number, offer, opened, built, offers, allOffers, isSumOf, secondPart, expand}
 use Rattle.deduction.proofs.Elimination.State.{Learnt}
 use Rattle.deduction.proofs.Standard.SumTest.{sum-test-unique}
 use Rattle.deduction.proofs.Steps.Head.{Heads, head-rep, rep-of, pair-record, enc-record}
@@ -39,7 +38,8 @@ module _ (e : ℕ → Entry) (n : ℕ) (down : Downward e n) {es : List ℕ} {k 
   abbrev All : List ℕ
   All = allOffers e (k .known) (isSumOf e k) n
 
-  not-known : (h : ℕ) → ¬ (List·Memᴰ h es) → member (k .known) h ≡ false
+  -- an entry that wasn't learnt isn't in the known set
+  pub not-known : (h : ℕ) → ¬ (List·Memᴰ h es) → member (k .known) h ≡ false
   not-known h f = go (member (k .known) h) refl
     where
       go : (b : Bool) → member (k .known) h ≡ b → b ≡ false

@@ -13,9 +13,12 @@ use Rattle.deduction.specs.Step.{Step, unused, Before}
 use Rattle.deduction.specs.Run.{number, noStep}
 use Rattle.deduction.proofs.Steps.Numbers.{numberOf, number-below}
 
--- a head and a rule below 256, and a first source below 256 or that of a sum, which is unused
+-- the first source is below 256, or is that of a sum, which is unused
+abbrev pub Source : Step → Type 0
+Source s = ((¬ (s .rule ≡ 6)) × (s .first < 256)) ⊎ ((s .rule ≡ 6) × (s .first ≡ unused))
+
 abbrev pub Small : Step → Type 0
-Small s = (s .head < 256) × (s .rule < 256) × (((¬ (s .rule ≡ 6)) × (s .first < 256)) ⊎ ((s .rule ≡ 6) × (s .first ≡ unused)))
+Small s = (s .head < 256) × (s .rule < 256) × Source s
 
 -- the first source in the number
 abbrev key : Step → ℕ
@@ -27,7 +30,7 @@ key-used s p = ap (λ (b : Bool). cond b 0 (s .first)) (ne-eqb (s .rule) 6 p)
 key-unused : (s : Step) → s .rule ≡ 6 → key s ≡ 0
 key-unused s p = ap (λ (b : Bool). cond b 0 (s .first)) (eq-eqb (s .rule) 6 p)
 
-key-small : (s : Step) → ((¬ (s .rule ≡ 6)) × (s .first < 256)) ⊎ ((s .rule ≡ 6) × (s .first ≡ unused)) → key s < 256
+key-small : (s : Step) → Source s → key s < 256
 key-small s (inl (p, q)) = rw (key-used s p) q
 key-small s (inr (p, q)) = rw (key-unused s p) (omega arith)
 
@@ -35,8 +38,7 @@ pub small-below : (s : Step) → Small s → numberOf s < noStep
 unfolding numberOf
 small-below s (h, r, f) = number-below (s .head) (s .rule) (key s) r (key-small s f) h
 
-key-order : (a b : Step) → ((¬ (a .rule ≡ 6)) × (a .first < 256)) ⊎ ((a .rule ≡ 6) × (a .first ≡ unused))
-    → ((¬ (b .rule ≡ 6)) × (b .first < 256)) ⊎ ((b .rule ≡ 6) × (b .first ≡ unused)) → a .rule ≡ b .rule → a .first < b .first → key a < key b
+key-order : (a b : Step) → Source a → Source b → a .rule ≡ b .rule → a .first < b .first → key a < key b
 key-order a b (inl (p, q)) (inl (p′, q′)) r h = rw (key-used a p, key-used b p′) h
 key-order a b (inl (p, q)) (inr (p′, q′)) r h = absurd (p (r ∙ p′))
 key-order a b (inr (p, q)) (inl (p′, q′)) r h = absurd (p′ (sym r ∙ p))

@@ -1,13 +1,13 @@
 -- Replays, over the terms of any entries.
 -- Shown: a replay's end is `endState`, which holds the first state and the gained heads; a replay from one state is one from any state that
 -- holds as much; a replay that passes is a derivation, up to ≈; steps in a row that follow replay. Assumes nothing.
-use mathlib.Core.Path.{_≡_, refl, sym, ap, _∙_, subst}
+use mathlib.Core.Path.{_≡_, refl, sym, ap, subst}
 use mathlib.Core.Bool.{Bool, true, false, cond}
 use mathlib.Core.Logic.{_↔_, _⊎_, inl, inr}
 use mathlib.Core.List.{List, [], _∷_, _++_, map, List·Memᴰ, List·Memᴰ·head, List·Memᴰ·tail, List·Memᴰ·not-nil, List·Memᴰ·cases-cons, List·Memᴰ·append-cases, List·Memᴰ·eq-of-singleton, Memᴰ·append-left, Memᴰ·append-right, Memᴰ·map, Memᴰ·of-map}
 use Prim.Native.Nat.{ℕ, zero, suc, _<_}
 use Rattle.bitset.specs.Set.{member}
-use Rattle.deduction.specs.Term.{Term, 𝟎, _⊕_, pair, enc, sumOf, _≈_, same, flip, then}
+use Rattle.deduction.specs.Term.{Term, _⊕_, sumOf, _≈_, same, flip}
 use Rattle.deduction.specs.Derivation.{Holds, Derivation, Derivable}
 use Rattle.deduction.specs.Standard.{sumOfSet}
 use Rattle.deduction.specs.Step.{Step, Drawn, Follows, Made}

@@ -1,9 +1,11 @@
 -- The run, described once: every step was the next, and what steps, learnt heads, verdict and budget have to do with each other.
--- Defined: `Ran`, that description. Shown: every run has it; what each verdict says of the last state. Assumes nothing.
+-- Defined: `Ran`, that description.
+-- Shown: every run has it; what each verdict says of the last state; a step adds one to the number of known heads, which is at most n.
+-- Assumes nothing.
 use mathlib.Core.Path.{_≡_, refl, sym, ap, ap₂, _∙_, subst}
-use mathlib.Core.Bool.{Bool, true, false, true≢false, false≢true, cond, not, _&&_}
+use mathlib.Core.Bool.{Bool, true, false, true≢false, cond, not, _&&_}
 use mathlib.Core.Logic.{_⊎_, inl, inr}
-use mathlib.Core.List.{List, [], _∷_, _++_, map, append-nil, append-assoc, List·Memᴰ, List·Memᴰ·append-cases, List·Memᴰ·eq-of-singleton}
+use mathlib.Core.List.{List, [], _∷_, _++_, map, append-nil, append-assoc, List·Memᴰ·append-cases, List·Memᴰ·eq-of-singleton}
 use Prim.Native.Nat.{ℕ, zero, suc, _+_, _≤_, _<_}
 use native.Mathlib.Omega.{arith}
 use lib.Count.{ones, ones-le}
@@ -15,11 +17,12 @@ use Rattle.bitset.proofs.Laws.Sums.{ones-insert}
 use Rattle.deduction.specs.Entry.{Entry, termAt, Downward}
 use Rattle.deduction.specs.Standard.{setAt, repAt}
 use Rattle.deduction.specs.Elimination.{Row, Knowledge, learnAs, nothing}
-use Rattle.deduction.specs.Step.{Step, Open, Follows, IsNext, Made}
-use Rattle.deduction.specs.Run.{knowledge, noStep, nextNumber, Verdict, derivable, underivable, exhausted, Outcome, after, reached, nextStep, goesOn, ended, run}
+use Rattle.deduction.specs.Step.{Step, Follows, IsNext, Made}
+use Rattle.deduction.specs.Run.{knowledge, noStep, nextNumber, derivable, underivable, exhausted, Outcome, after, reached, nextStep, goesOn, ended, run}
 use Rattle.deduction.proofs.Elimination.{learnAll-more, known-below}
 use Rattle.deduction.proofs.Standard.First.{both-true}
 use Rattle.deduction.proofs.Steps.Head.{Heads, head-rep}
+use Rattle.deduction.proofs.Steps.Offers.{not-known}
 use Rattle.deduction.proofs.Steps.Next.{follows-open, knowledge-learnt, next-isNext}
 
 -- the gained heads of steps
@@ -80,18 +83,10 @@ module _ (e : ℕ → Entry) (n : ℕ) (down : Downward e n) where
       own : (s .head < n) × (repAt e (s .head) ≡ s .head)
       own = let o = follows-open e n f in (o .0 .0, head-rep e n down (s .head) (o .0))
 
-  -- an open head isn't in the known set
-  pub open-unknown : (es : List ℕ) (h : ℕ) → Heads e n es → Open (termAt e) n es h → member (knowledge e es .known) h ≡ false
-  open-unknown es h hs o = go (member (knowledge e es .known) h) refl
-    where
-      go : (b : Bool) → member (knowledge e es .known) h ≡ b → b ≡ false
-      go false p = refl
-      go true p = absurd (o .1 (knowledge-learnt e n down es hs .members h .0 p))
-
   -- a step that follows adds one to the number of known heads, and there are at most n
   pub count-more : (es : List ℕ) (s : Step) → Heads e n es → Follows (termAt e) n es s → ones (knowledge e (es ++ (s .head ∷ [])) .known) ≡ suc (ones (knowledge e es .known))
   count-more es s hs f =
-      let new = open-unknown es (s .head) hs (follows-open e n f) in
+      let new = not-known e n down (knowledge-learnt e n down es hs) hs (s .head) (follows-open e n f .1) in
       ap ones (known-more e es (s .head) new) ∙ ones-insert (knowledge e es .known) (s .head) new
 
   pub count-le : (es : List ℕ) → Heads e n es → ones (knowledge e es .known) ≤ n
