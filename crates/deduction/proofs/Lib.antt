@@ -1,4 +1,5 @@
--- Reading order: the code of a term, equality decided by it, the terms of entries, exactness, elimination, the sets of standard entries.
+-- Reading order: the code of a term, equality decided by it, the terms of entries, exactness, elimination, the sets of standard entries,
+-- the steps of a run, its verdicts and its replay.
 pub mod Coding
 pub mod Pieces
 pub mod Distinct
@@ -6,4 +7,5 @@ pub mod Terms
 pub mod Exactness
 pub mod Elimination
 pub mod Standard
+pub mod Steps
 pub mod Examples

@@ -1,5 +1,5 @@
 -- Reading order: terms and their equality, what an intruder can derive, the terms of a sheet's entries, their sets of standard
--- entries, the steps within the entries, and the elimination that decides sums.
+-- entries, the steps within the entries, the elimination that decides sums, the steps in their order, the run, and the replay.
 pub mod Term
 pub mod Derivation
 pub mod Entry
@@ -8,3 +8,4 @@ pub mod Within
 pub mod Elimination
 pub mod Step
 pub mod Run
+pub mod Replay
