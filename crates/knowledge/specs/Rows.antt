@@ -1,5 +1,6 @@
 -- Basis rows in memory: eight words a row, four of its vector and four of its uses, in one list of words.
--- Defined: `wordsAt`, `rowAt`, `rowsOf`; `withoutRow`, a set with a row taken off; `SameOutside`, what a store keeps.
+-- Defined: `wordsAt`, `rowAt`, `rowsOf`; `withoutRow`, a set with a row taken off; `SameOutside`, what a store keeps;
+-- `Remainders`, a table of what the rows leave of each set.
 -- What rows are and what is done with them: specs/Elimination.antt of `deduction`.
 use Prim.Native.Nat.{ℕ, zero, suc, _+_, _*_, _≤_, _<_}
 use mathlib.Core.Path.{_≡_}
@@ -9,7 +10,7 @@ use lib.Bits.{bitXor}
 use lib.ListN.{length, getD}
 use Rattle.bitset.specs.Set.{member, leading}
 use Rattle.bitset.specs.Words.{value}
-use Rattle.deduction.specs.Elimination.{Row}
+use Rattle.deduction.specs.Elimination.{Row, reduce}
 
 -- the four words from k on
 abbrev pub wordsAt : List ℕ → ℕ → List ℕ
@@ -33,3 +34,7 @@ pub record SameOutside {A : Type 0} (a b : ℕ) (ws vs : List A) : Type 0 where
   pub size : length vs ≡ length ws
   pub under : (k : ℕ) (d : A) → k < a → getD vs k d ≡ getD ws k d
   pub over : (k : ℕ) (d : A) → b ≤ k → getD vs k d ≡ getD ws k d
+
+-- the first n sets of the table are what the first len rows leave of the sets `s i`
+abbrev pub Remainders : (ℕ → ℕ) → ℕ → List ℕ → ℕ → List (List ℕ) → Type 0
+Remainders s n ws len rs = (i : ℕ) → i < n → value (getD rs i []) ≡ reduce (rowsOf ws len) (s i) .remainder

@@ -9,7 +9,7 @@ ghost use lib.ListN.{length, getD, replicate};
 ghost use Rattle.bitset.specs.Set.{member};
 ghost use Rattle.bitset.specs.Words.{value};
 ghost use Rattle.deduction.specs.Elimination.{reduce, learnAs, nothing, take-off};
-ghost use Rattle.knowledge.specs.Rows.{wordsAt, rowAt, rowsOf, withoutRow, SameOutside};
+ghost use Rattle.knowledge.specs.Rows.{wordsAt, rowAt, rowsOf, withoutRow, SameOutside, Remainders};
 ghost use Rattle.knowledge.specs.State.{stateOf, knowledgeOf, reducedOf, Room};
 
 // What the intruder knows: the known representatives, and the basis rows in the order learnt.
@@ -198,4 +198,28 @@ pub fn sweep(remainders: &mut [[u64; 4]; 256], n: usize, rows: &[u64; 2048], i: 
         remainders[k] = left;
         k += 1;
     }
+}
+
+// Learns e, and keeps each entry's remainder in the table: where a row was added, it is taken off all of them.
+pub fn gain(
+    known: [u64; 4],
+    rows: &mut [u64; 2048],
+    len: usize,
+    remainders: &mut [[u64; 4]; 256],
+    n: usize,
+    e: u8,
+    set: [u64; 4],
+) -> Learnt
+    requires { ⌜ (length (now rows) ≡ 2048) × (length (now remainders) ≡ 256) × (n ≤ 256) × Room known len ⌝ }
+    ensures state { λ r. ⌜ stateOf (r .known) (now (rows .exit)) (r .len) ≡ learnAs (stateOf known (now (rows .entry)) len) e (value set) ⌝ }
+    ensures room { λ r. ⌜ Room (r .known) (r .len) ⌝ }
+    ensures kept { λ r. ⌜ SameOutside (8 * len) (8 * r .len) (now (rows .entry)) (now (rows .exit)) ⌝ }
+    ensures cache { λ r. ⌜ ((s : ℕ → ℕ) → Remainders s n (now (rows .entry)) len (now (remainders .entry)) → Remainders s n (now (rows .exit)) (r .len) (now (remainders .exit))) ⌝ }
+    ensures others { λ _. ⌜ SameOutside 0 n (now (remainders .entry)) (now (remainders .exit)) ⌝ }
+{
+    let learnt = learn(known, rows, len, e, set);
+    if learnt.len != len {
+        sweep(remainders, n, rows, len);
+    }
+    learnt
 }

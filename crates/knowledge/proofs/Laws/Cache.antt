@@ -1,5 +1,5 @@
 -- Remainders kept in a table while rows are added.
--- Defined: `Remainders`, what the table holds. Shown: one set more is swept; a store past the rows keeps the table; so does a row added and swept; a kept
+-- Shown: one set more is swept; a store past the rows keeps the table; so does a row added and swept; a kept
 -- remainder is nothing exactly when its set is a sum of the learnt ones. Assumes nothing.
 use mathlib.Core.Path.{_≡_, sym, ap, _∙_}
 use mathlib.Core.List.{List, [], map, List·Memᴰ}
@@ -12,13 +12,9 @@ use lib.Seq.{getD-set-same, getD-set-other}
 use Rattle.bitset.specs.Words.{value}
 use Rattle.deduction.specs.Elimination.{Row, Reduced, Knowledge, Span, reduce, learnAll, nothing}
 use Rattle.deduction.proofs.Elimination.{learnt-all, reduce-zero}
-use Rattle.knowledge.specs.Rows.{rowAt, rowsOf, withoutRow, SameOutside}
+use Rattle.knowledge.specs.Rows.{rowAt, rowsOf, withoutRow, SameOutside, Remainders}
 use Rattle.knowledge.specs.State.{stateOf}
 use Rattle.knowledge.proofs.Laws.Rows.{rowsOf-kept, remainder-next, reduce-first}
-
--- the first n sets of the table are what the first len rows leave of the sets `s i`
-abbrev pub Remainders : (ℕ → ℕ) → ℕ → List ℕ → ℕ → List (List ℕ) → Type 0
-Remainders s n ws len rs = (i : ℕ) → i < n → value (getD rs i []) ≡ reduce (rowsOf ws len) (s i) .remainder
 
 -- by no row, each set is its own remainder
 pub remainders-first : (s : ℕ → ℕ) (n : ℕ) (ws : List ℕ) (rs : List (List ℕ)) → ((i : ℕ) → i < n → value (getD rs i []) ≡ s i) → Remainders s n ws 0 rs
