@@ -1,0 +1,34 @@
+-- The run from a state of knowledge, as the program makes it: the same as `run` from the list of heads learnt (proofs/Laws/Machine.antt).
+-- Defined: `Ended`, `machine`, `verdictOf`.
+use Prim.Native.Nat.{ℕ, zero, suc}
+use mathlib.Core.Bool.{Bool, true, false, cond, not, _&&_}
+use mathlib.Core.List.{List, [], _∷_}
+use lib.Dec.{eqb}
+use Rattle.deduction.specs.Entry.{Entry}
+use Rattle.deduction.specs.Standard.{setAt}
+use Rattle.deduction.specs.Elimination.{Knowledge, learn}
+use Rattle.deduction.specs.Step.{Step}
+use Rattle.deduction.specs.Run.{Verdict, derivable, underivable, exhausted, noStep, nextNumber, stepAt, reached}
+
+pub record Ended : Type 0 where
+  pub verdict : Verdict
+  pub steps : List Step
+  pub final : Knowledge
+
+unfoldable pub stepNext : (ℕ → Entry) → ℕ → Knowledge → Step
+stepNext e n k = stepAt e k (nextNumber e n k)
+
+unfoldable pub stopped : (ℕ → Entry) → ℕ → ℕ → Knowledge → Ended
+stopped e n goal k =
+    record { verdict = cond (reached e goal k) derivable (cond (eqb (nextNumber e n k) noStep) underivable exhausted); steps = []; final = k }
+
+unfoldable pub follow : Step → Ended → Ended
+follow s o = record { verdict = o .verdict; steps = s ∷ o .steps; final = o .final }
+
+unfoldable pub machine : (ℕ → Entry) → ℕ → ℕ → ℕ → Knowledge → Ended
+machine e n goal zero k = stopped e n goal k
+machine e n goal (suc b) k =
+    elim (not (reached e goal k) && not (eqb (nextNumber e n k) noStep)) [
+      true ↦ follow (stepNext e n k) (machine e n goal b (learn (setAt e) k (stepNext e n k .head)))
+    | false ↦ stopped e n goal k
+    ]

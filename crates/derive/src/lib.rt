@@ -1,0 +1,13 @@
+// The steps of the intruder: which comes next, and the run that makes them.
+pub mod next;
+pub mod writer;
+pub mod run;
+
+// One step (document 01: rung). A source that isn't used is 65,535.
+pub struct Step {
+    pub head: u8,
+    pub rule: u8,
+    pub first: u16,
+    pub second: u16,
+    pub set: [u64; 4],
+}

@@ -1,0 +1,143 @@
+// The next step: the least number over all steps that follow. A step's number is head, then rule, then first source, so the least is
+// the one that document 01's order names.
+ghost use mathlib.Core.Path.{_≡_};
+ghost use mathlib.Core.List.{[]};
+ghost use Prim.Native.Nat.{_≤_, min};
+ghost use lib.ListN.{length, getD};
+ghost use Rattle.bitset.specs.Words.{value};
+ghost use Rattle.knowledge.specs.Rows.{rowsOf};
+ghost use Rattle.derive.specs.Bytes.{stepOf};
+ghost use Rattle.deduction.specs.Run.{number};
+ghost use Rattle.derive.specs.Search.{offered, openedLeast, bothKnown, builtLeast, lineLeast, searchLeast, stepIn};
+
+use crate::Step;
+
+// Above every step's number: nothing follows.
+pub const NO_STEP: u32 = 16777216;
+
+// The number of a step.
+fn number(head: u8, rule: u8, first: u8) -> u32
+    ensures { λ r. ⌜ r ≡ number head rule first ⌝ }
+{
+    (head as u32) * 65536 + (rule as u32) * 256 + (first as u32)
+}
+
+// The smaller of two.
+fn least(a: u32, b: u32) -> u32
+    ensures { λ r. ⌜ r ≡ min a b ⌝ }
+{
+    if b < a {
+        return b;
+    }
+    a
+}
+
+// The step that gains head by a rule from entry i, unless head is known.
+fn offer(known: [u64; 4], head: u8, rule: u8, i: u8) -> u32
+    ensures { λ r. ⌜ r ≡ offered (value known) head rule i ⌝ }
+{
+    if bitset::member(known, head) {
+        return NO_STEP;
+    }
+    number(head, rule, i)
+}
+
+// What the known entry i gives: a pair its parts, an encryption its message where its key is known.
+fn opened(known: [u64; 4], key: u64, i: u8) -> u32
+    ensures { λ r. ⌜ r ≡ openedLeast (value known) key i ⌝ }
+{
+    let kind = canonical::kind(key);
+    if kind == 2 {
+        return least(offer(known, canonical::left(key), 1, i), offer(known, canonical::right(key), 2, i));
+    }
+    if kind == 3 {
+        if bitset::member(known, canonical::right(key)) {
+            return offer(known, canonical::left(key), 3, i);
+        }
+    }
+    NO_STEP
+}
+
+// Are both parts of a pair or an encryption known?
+fn both_known(known: [u64; 4], key: u64) -> bool
+    ensures { λ r. ⌜ r ≡ bothKnown (value known) key ⌝ }
+{
+    if bitset::member(known, canonical::left(key)) {
+        return bitset::member(known, canonical::right(key));
+    }
+    false
+}
+
+// How the unknown entry i is gained: by pairing, by encrypting, or as a sum of known terms, which is when nothing remains of it.
+fn built(known: [u64; 4], key: u64, i: u8, summed: bool) -> u32
+    ensures { λ r. ⌜ r ≡ builtLeast (value known) key i summed ⌝ }
+{
+    let kind = canonical::kind(key);
+    if kind == 2 {
+        if both_known(known, key) {
+            return number(i, 4, canonical::left(key));
+        }
+    }
+    if kind == 3 {
+        if both_known(known, key) {
+            return number(i, 5, canonical::left(key));
+        }
+    }
+    if summed {
+        return number(i, 6, 0);
+    }
+    NO_STEP
+}
+
+// The least step that entry i offers.
+fn offered_by(known: [u64; 4], key: u64, i: u8, summed: bool) -> u32
+    ensures { λ r. ⌜ r ≡ lineLeast (value known) key i summed ⌝ }
+{
+    if bitset::member(known, i) {
+        return opened(known, key, i);
+    }
+    built(known, key, i, summed)
+}
+
+// The number of the next step over the first n lines of the tables, or NO_STEP.
+pub fn next(keys: &[u64; 256], reps: &[u8; 256], n: usize, known: [u64; 4], remainders: &[[u64; 4]; 256]) -> u32
+    requires { ⌜ n ≤ 256 ⌝ }
+    ensures { λ r. ⌜ r ≡ searchLeast (value known) (now (keys .entry)) (now (reps .entry)) (now (remainders .entry)) n ⌝ }
+{
+    let mut best = NO_STEP;
+    let mut i: usize = 0;
+    while i < n {
+        if (reps[i] as usize) == i {
+            let x = offered_by(known, keys[i], i as u8, bitset::is_empty(remainders[i]));
+            let b = least(best, x);
+            best = b;
+        }
+        i += 1;
+    }
+    best
+}
+
+// The whole step of a number: its second source from the keys, and for a sum the set of learnt entries used.
+pub fn step_of(x: u32, keys: &[u64; 256], sets: &[[u64; 4]; 256], rows: &[u64; 2048], len: usize) -> Step
+    requires { ⌜ (length (now rows) ≡ 2048) × (len ≤ 256) ⌝ }
+    ensures { λ r. ⌜ stepOf r ≡ stepIn (now (keys .entry)) (now (sets .entry)) (rowsOf (now (rows .entry)) len) x ⌝ }
+{
+    let head = (x / 65536 % 256) as u8;
+    let rule = (x / 256 % 256) as u8;
+    let first = (x % 256) as u8;
+    let none = bitset::empty();
+    if rule < 3 {
+        return Step { head, rule, first: first as u16, second: 65535, set: none };
+    }
+    if rule == 3 {
+        let key = canonical::right(keys[first as usize]);
+        return Step { head, rule, first: first as u16, second: key as u16, set: none };
+    }
+    if rule < 6 {
+        let right = canonical::right(keys[head as usize]);
+        return Step { head, rule, first: first as u16, second: right as u16, set: none };
+    }
+    let reduced = knowledge::reduce(rows, len, sets[head as usize]);
+    let used = reduced.used;
+    Step { head, rule: 6, first: 65535, second: 65535, set: used }
+}
