@@ -1,0 +1,4 @@
+pub mod Machine
+pub mod Along
+pub mod Buffer
+pub mod Assumed

@@ -1,0 +1,75 @@
+-- Steps in the output buffer, one after the other. Assumes nothing.
+use mathlib.Core.Path.{_≡_, refl, sym, ap, ap₂, _∙_}
+use mathlib.Core.List.{List, [], _∷_, _++_, append-assoc, append-nil}
+use Prim.Native.Nat.{ℕ, zero, suc, _+_, _-_, _*_, _≤_}
+use native.Mathlib.Nat.{le-trans, le-of-eq, mul-suc}
+use native.Mathlib.Omega.{arith}
+use lib.ListN.{length, take, drop, length-append, length-drop}
+use lib.Seq.{take-at, drop-at, length-take-le, drop-drop}
+use Rattle.bitset.specs.Words.{bytesOf}
+use Rattle.bitset.proofs.Laws.Bytes.{length-bytesOf}
+use Rattle.deduction.specs.Step.{Step}
+use Rattle.derive.specs.Bytes.{two, stepBytes, stepsBytes}
+
+pub step-length : (s : Step) → length (stepBytes s) ≡ 40
+unfolding stepBytes
+step-length s = ap (λ (n : ℕ). suc (suc (suc (suc (suc (suc (suc (suc n)))))))) (length-bytesOf 32 (s .set))
+
+pub steps-length : (ss : List Step) → length (stepsBytes ss) ≡ 40 * length ss
+unfolding stepsBytes
+steps-length [] = refl
+steps-length (s ∷ ss) =
+    sum (length-append (stepBytes s) (stepsBytes ss)) (step-length s) (steps-length ss) (mul-suc 40 (length ss))
+  where
+    sum : length (stepBytes s ++ stepsBytes ss) ≡ length (stepBytes s) + length (stepsBytes ss) → length (stepBytes s) ≡ 40
+      → length (stepsBytes ss) ≡ 40 * length ss → 40 * suc (length ss) ≡ 40 * length ss + 40 → length (stepBytes s ++ stepsBytes ss) ≡ 40 * suc (length ss)
+    sum a b c d = omega arith
+
+pub steps-more : (ss : List Step) (s : Step) → stepsBytes (ss ++ (s ∷ [])) ≡ stepsBytes ss ++ stepBytes s
+unfolding stepsBytes
+steps-more [] s = append-nil (stepBytes s)
+steps-more (r ∷ ss) s = ap (λ (l : List ℕ). stepBytes r ++ l) (steps-more ss s) ∙ sym (append-assoc (stepBytes r) (stepsBytes ss) (stepBytes s))
+
+-- the buffer with its first steps written, and the part that begins where the last one ended
+module _ (out₀ : List ℕ) (ss : List Step) (made : ℕ) (many : length ss ≡ made) (space : 32 ≤ length out₀) where
+  front : List ℕ
+  front = take 32 out₀ ++ stepsBytes ss
+
+  front-length : length front ≡ 32 + 40 * made
+  unfolding front
+  front-length =
+      length-append (take 32 out₀) (stepsBytes ss)
+      ∙ ap₂ _+_ (length-take-le 32 out₀ space) (steps-length ss ∙ ap (λ (n : ℕ). 40 * n) many)
+
+  pub written-more : (out out′ : List ℕ) (s : Step) → out ≡ take 32 out₀ ++ (stepsBytes ss ++ drop (32 + 40 * made) out₀)
+      → out′ ≡ take (32 + 40 * made) out ++ (stepBytes s ++ drop 40 (drop (32 + 40 * made) out))
+      → out′ ≡ take 32 out₀ ++ (stepsBytes (ss ++ (s ∷ [])) ++ drop (32 + 40 * (made + 1)) out₀)
+  unfolding front
+  written-more out out′ s p q =
+      q
+      ∙ ap₂ (λ (a b : List ℕ). a ++ (stepBytes s ++ drop 40 b)) (ap (take (32 + 40 * made)) whole ∙ take-at front rest (32 + 40 * made) front-length)
+          (ap (drop (32 + 40 * made)) whole ∙ drop-at front rest (32 + 40 * made) front-length)
+      ∙ append-assoc (take 32 out₀) (stepsBytes ss) (stepBytes s ++ drop 40 rest)
+      ∙ ap (λ (l : List ℕ). take 32 out₀ ++ l)
+          (sym (append-assoc (stepsBytes ss) (stepBytes s) (drop 40 rest))
+          ∙ ap₂ _++_ (sym (steps-more ss s)) (drop-drop 40 (32 + 40 * made) out₀ ∙ ap (λ (n : ℕ). drop n out₀) later))
+    where
+      rest : List ℕ
+      rest = drop (32 + 40 * made) out₀
+
+      whole : out ≡ front ++ rest
+      whole = p ∙ sym (append-assoc (take 32 out₀) (stepsBytes ss) rest)
+
+      later : 32 + 40 * made + 40 ≡ 32 + 40 * (made + 1)
+      later = omega arith
+
+  pub written-length : (out : List ℕ) → out ≡ take 32 out₀ ++ (stepsBytes ss ++ drop (32 + 40 * made) out₀) → 32 + 40 * made ≤ length out₀ → length out ≡ length out₀
+  unfolding front
+  written-length out p h =
+      ap length (p ∙ sym (append-assoc (take 32 out₀) (stepsBytes ss) (drop (32 + 40 * made) out₀)))
+      ∙ length-append front (drop (32 + 40 * made) out₀)
+      ∙ ap₂ _+_ front-length (length-drop (32 + 40 * made) out₀)
+      ∙ back (32 + 40 * made) (length out₀) h
+    where
+      back : (a b : ℕ) → a ≤ b → a + (b - a) ≡ b
+      back a b l = omega arith
