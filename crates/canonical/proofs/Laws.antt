@@ -1,0 +1,6 @@
+pub mod Search
+pub mod Items
+pub mod Key
+pub mod Record
+pub mod Line
+pub mod Tables

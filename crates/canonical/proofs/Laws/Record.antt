@@ -1,0 +1,118 @@
+-- A record's key and parts, kind by kind.
+-- Shown: the key of a record of each kind; the parts of a pair and of an encryption; a record with the key 0 has its items for parts, and
+-- its set is the sum of theirs; the bytes of a sheet leave its atoms narrow. Assumes nothing.
+use mathlib.Core.Path.{_≡_, refl, sym, ap, subst}
+use mathlib.Core.Bool.{true}
+use mathlib.Core.Logic.{by-cases}
+use mathlib.Core.List.{List, [], _∷_, List·Memᴰ, List·Memᴰ·head, List·Memᴰ·tail, Memᴰ·append-left, Memᴰ·append-right}
+use Prim.Native.Nat.{ℕ, zero, suc, _+_, _*_, _-_, _/_, _^_, _≤_, _<_}
+use native.Mathlib.Decide.{decLt}
+use native.Mathlib.Omega.{arith}
+use lib.ListN.{length, getD, take, drop, length-take, List·getD-eq-default}
+use lib.Seq.{getD-take, getD-drop}
+use borrow.Author.Tests.{eqb-true}
+use Rattle.deduction.specs.Entry.{Entry, Zero, Atom, Pair, Enc, Sum, parts}
+use Rattle.deduction.specs.Standard.{xorAll, buildSet}
+use Rattle.dag.specs.Sheet.{numberAt, recordAt, listed, offsetAt, lengthAt}
+use Rattle.dag.specs.Record.{kindOf, fits, itemCount, itemAt, decodeAs, entryAt}
+use Rattle.canonical.specs.Key.{keyOf}
+use Rattle.canonical.proofs.Laws.Key.{Narrow}
+
+module _ (rep : ℕ → ℕ) (r : List ℕ) where
+  pub zero-key : (k : ℕ) → k ≡ 0 → 0 ≡ keyOf rep (decodeAs k r)
+  unfolding decodeAs keyOf
+  zero-key zero h = refl
+  zero-key (suc k) h = absurd (omega arith)
+
+  pub sum-key : (k : ℕ) → 3 < k → 0 ≡ keyOf rep (decodeAs k r)
+  unfolding decodeAs keyOf
+  sum-key zero h = absurd (omega arith)
+  sum-key (suc zero) h = absurd (omega arith)
+  sum-key (suc (suc zero)) h = absurd (omega arith)
+  sum-key (suc (suc (suc zero))) h = absurd (omega arith)
+  sum-key (suc (suc (suc (suc k)))) h = refl
+
+  pub atom-key : (k : ℕ) → k ≡ 1 → 2 ^ 32 + numberAt r 1 ≡ keyOf rep (decodeAs k r)
+  unfolding decodeAs keyOf
+  atom-key zero h = absurd (omega arith)
+  atom-key (suc zero) h = refl
+  atom-key (suc (suc k)) h = absurd (omega arith)
+
+  pub parts-key : (k : ℕ) → 2 ≤ k → k ≤ 3 → k * 2 ^ 32 + rep (numberAt r 1) * 256 + rep (numberAt r 3) ≡ keyOf rep (decodeAs k r)
+  unfolding decodeAs keyOf
+  parts-key zero h l = absurd (omega arith)
+  parts-key (suc zero) h l = absurd (omega arith)
+  parts-key (suc (suc zero)) h l = refl
+  parts-key (suc (suc (suc zero))) h l = refl
+  parts-key (suc (suc (suc (suc k)))) h l = absurd (omega arith)
+
+-- the parts of a pair and of an encryption
+module _ (r : List ℕ) where
+  two : (k : ℕ) → 2 ≤ k → k ≤ 3 → parts (decodeAs k r) ≡ numberAt r 1 ∷ numberAt r 3 ∷ []
+  unfolding parts decodeAs
+  two zero h l = absurd (omega arith)
+  two (suc zero) h l = absurd (omega arith)
+  two (suc (suc zero)) h l = refl
+  two (suc (suc (suc zero))) h l = refl
+  two (suc (suc (suc (suc k)))) h l = absurd (omega arith)
+
+  pub first-part : (k : ℕ) → 2 ≤ k → k ≤ 3 → List·Memᴰ (numberAt r 1) (parts (decodeAs k r))
+  first-part k h l = subst (List·Memᴰ (numberAt r 1)) (sym (two k h l)) (List·Memᴰ·head refl)
+
+  pub second-part : (k : ℕ) → 2 ≤ k → k ≤ 3 → List·Memᴰ (numberAt r 3) (parts (decodeAs k r))
+  second-part k h l = subst (List·Memᴰ (numberAt r 3)) (sym (two k h l)) (List·Memᴰ·tail (List·Memᴰ·head refl))
+
+-- a record without a key has its items for parts, and zero none
+pub items-parts : (rep : ℕ → ℕ) (r : List ℕ) (k : ℕ) → fits k (length r) ≡ true → keyOf rep (decodeAs k r) ≡ 0 → parts (decodeAs k r) ≡ listed (itemAt r) (itemCount r)
+unfolding fits parts decodeAs keyOf listed
+items-parts rep r zero f h = ap (listed (itemAt r)) (none (length r) (eqb-true (length r) 1 f))
+  where
+    none : (l : ℕ) → l ≡ 1 → 0 ≡ (l - 1) / 2
+    none l p = omega arith
+items-parts rep r (suc zero) f h = absurd (omega arith)
+items-parts rep r (suc (suc zero)) f h = absurd (omega arith)
+items-parts rep r (suc (suc (suc zero))) f h = absurd (omega arith)
+items-parts rep r (suc (suc (suc (suc k)))) f h = refl
+
+-- and the sum of the sets of its parts for set
+pub parts-set : (rep s : ℕ → ℕ) (e : ℕ → Entry) (n : ℕ) (d : Entry) → keyOf rep d ≡ 0 → buildSet s e n d ≡ xorAll s (parts d)
+unfolding keyOf buildSet parts xorAll
+parts-set rep s e n Zero h = refl
+parts-set rep s e n (Atom a) h = absurd (omega arith)
+parts-set rep s e n (Pair l r) h = absurd (omega arith)
+parts-set rep s e n (Enc m k) h = absurd (omega arith)
+parts-set rep s e n (Sum items) h = refl
+
+pub item-listed : (f : ℕ → ℕ) (n j : ℕ) → j < n → List·Memᴰ (f j) (listed f n)
+unfolding listed
+item-listed f zero j h = absurd (omega arith)
+item-listed f (suc n) j h =
+    by-cases (decLt j n) (λ l. Memᴰ·append-left (f n ∷ []) (item-listed f n j l))
+    (λ l. let last : j ≡ n = omega arith in Memᴰ·append-right (listed f n) (List·Memᴰ·head (ap f last)))
+
+-- a list of bytes
+abbrev pub Bytes : List ℕ → Type 0
+Bytes s = (k : ℕ) → getD s k 0 < 256
+
+bytes-take : (n : ℕ) (s : List ℕ) → Bytes s → Bytes (take n s)
+bytes-take n s b k =
+    by-cases (decLt k n) (λ l. omega (arith, getD-take n s k 0 l, b k))
+    (λ l. omega (arith, List·getD-eq-default (take n s) 0 {n = k} (omega (arith, length-take n s))))
+
+bytes-drop : (n : ℕ) (s : List ℕ) → Bytes s → Bytes (drop n s)
+bytes-drop n s b k = omega (arith, getD-drop n s k 0, b (n + k))
+
+-- an atom's number is two bytes
+pub narrow-bytes : (s : List ℕ) (n : ℕ) → Bytes s → Narrow (entryAt s) n
+unfolding decodeAs numberAt
+narrow-bytes s n b i a h p = go (kindOf (recordAt s i)) p
+  where
+    small : Bytes (recordAt s i)
+    small = bytes-take (lengthAt s i) (drop (offsetAt s i) s) (bytes-drop (offsetAt s i) s b)
+
+    go : (k : ℕ) → decodeAs k (recordAt s i) ≡ Atom a → a < 2 ^ 32
+    go zero q = let z : _≡_ {A = ℕ} 0 1 = cc in omega arith
+    go (suc zero) q = let z : getD (recordAt s i) 1 0 * 256 + getD (recordAt s i) 2 0 ≡ a = cc in omega (arith, small 1, small 2)
+    go (suc (suc zero)) q = let z : _≡_ {A = ℕ} 0 1 = cc in omega arith
+    go (suc (suc (suc zero))) q = let z : _≡_ {A = ℕ} 0 1 = cc in omega arith
+    go (suc (suc (suc (suc k)))) q = let z : _≡_ {A = ℕ} 0 1 = cc in omega arith

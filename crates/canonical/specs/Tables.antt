@@ -1,0 +1,44 @@
+-- What the three tables hold: line i has the key, the set of standard entries and the representative of entry i.
+-- Defined: `RightLine`, one line of them; `Right`, they are right for the first n entries; `Sized`, the lengths; `Filled`, what filling them does.
+use mathlib.Core.Path.{_≡_}
+use mathlib.Core.List.{List, []}
+use Prim.Native.Nat.{ℕ, _≤_, _<_}
+use lib.ListN.{length, getD}
+use Rattle.bitset.specs.Words.{value}
+use Rattle.deduction.specs.Entry.{Entry}
+use Rattle.deduction.specs.Standard.{setAt, repAt}
+use Rattle.canonical.specs.Key.{keyAt}
+
+-- a table of sets, as numbers
+abbrev pub setIn : List (List ℕ) → ℕ → ℕ
+setIn sets j = value (getD sets j [])
+
+-- a table of numbers
+abbrev pub numberIn : List ℕ → ℕ → ℕ
+numberIn l j = getD l j 0
+
+-- the line of entry i
+pub record RightLine (e : ℕ → Entry) (i k : ℕ) (ws : List ℕ) (r : ℕ) : Type 0 where
+  pub key : k ≡ keyAt e i
+  pub set : value ws ≡ setAt e i
+  pub rep : r ≡ repAt e i
+
+-- the tables are right for the first n entries
+pub record Right (e : ℕ → Entry) (n : ℕ) (keys : List ℕ) (sets : List (List ℕ)) (reps : List ℕ) : Type 0 where
+  pub key : (i : ℕ) → i < n → getD keys i 0 ≡ keyAt e i
+  pub set : (i : ℕ) → i < n → value (getD sets i []) ≡ setAt e i
+  pub rep : (i : ℕ) → i < n → getD reps i 0 ≡ repAt e i
+
+-- each table has 256 lines
+pub record Sized (keys : List ℕ) (sets : List (List ℕ)) (reps : List ℕ) : Type 0 where
+  pub key : length keys ≡ 256
+  pub set : length sets ≡ 256
+  pub rep : length reps ≡ 256
+
+-- the tables after the first n entries were entered: their lines are right, and every other line is as it was
+pub record Filled (e : ℕ → Entry) (n : ℕ) (keys₀ : List ℕ) (sets₀ : List (List ℕ)) (reps₀ keys : List ℕ) (sets : List (List ℕ)) (reps : List ℕ) : Type 0 where
+  pub right : Right e n keys sets reps
+  pub sized : Sized keys sets reps
+  pub keys-kept : (i : ℕ) → n ≤ i → getD keys i 0 ≡ getD keys₀ i 0
+  pub sets-kept : (i : ℕ) → n ≤ i → getD sets i [] ≡ getD sets₀ i []
+  pub reps-kept : (i : ℕ) → n ≤ i → getD reps i 0 ≡ getD reps₀ i 0
