@@ -2,7 +2,7 @@
 -- Shown: one item more adds its set to the sum of the sets; the sum of no items is empty. Assumes nothing.
 use mathlib.Core.Path.{_≡_, refl, sym, ap, _∙_}
 use mathlib.Core.List.{List, [], _∷_, _++_}
-use Prim.Native.Nat.{ℕ, zero, suc, _+_}
+use Prim.Native.Nat.{ℕ, _+_}
 use native.Mathlib.Numerals.{add-one}
 use lib.Bits.{bitXor, xor-zero-l, xor-zero-r}
 use Rattle.bitset.proofs.Laws.Member.{sum-assoc}

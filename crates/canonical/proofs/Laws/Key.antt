@@ -1,19 +1,23 @@
 -- Keys and shapes say the same of an entry.
 -- Defined: `Narrow`, the atoms' numbers have at most 32 bits.
--- Shown: the shape of an entry is read off its key and its key off its shape, so keys are equal exactly when shapes are alike; the kind and
--- the parts' representatives are what `keyKind`, `keyLeft`, `keyRight` give. Assumes nothing.
+-- Shown: the shape of an entry is read off its key and its key off its shape, so keys are equal exactly when shapes are alike, and, of
+-- entries of kinds 1 to 3, exactly when terms are ≈; the kind and the parts' representatives are what `keyKind`, `keyLeft`, `keyRight`
+-- give. Assumes nothing.
 use mathlib.Core.Path.{_≡_, refl, sym, ap, ap₂, _∙_, subst}
 use mathlib.Core.Bool.{Bool, true, false, true≢false}
-use mathlib.Core.List.{List, [], _∷_, List·Memᴰ, List·Memᴰ·head, List·Memᴰ·tail}
+use mathlib.Core.Logic.{_↔_}
+use mathlib.Core.List.{List·Memᴰ, List·Memᴰ·head, List·Memᴰ·tail}
 use Prim.Native.Nat.{ℕ, zero, suc, _+_, _*_, _%_, _^_, _≤_, _<_}
 use native.Mathlib.Omega.{arith}
 use lib.Dec.{eqb}
-use borrow.Author.Tests.{eqb-true, eqb-false, eq-eqb, ne-eqb}
-use Rattle.deduction.specs.Entry.{Entry, Zero, Atom, Pair, Enc, Sum, parts, Downward}
+use borrow.Author.Tests.{eq-eqb, ne-eqb}
+use Rattle.deduction.specs.Term.{_≈_}
+use Rattle.deduction.specs.Entry.{Entry, Zero, Atom, Pair, Enc, Sum, termAt, parts, Downward}
 use Rattle.deduction.specs.Standard.{Shape, shape, alike, least, setAt, repAt}
-use Rattle.deduction.proofs.Standard.{rep-le, rep-set, rep-lowest}
+use Rattle.deduction.proofs.Standard.{rep-le, rep-set, rep-lowest, rep-of-set, set-same}
 use Rattle.deduction.proofs.Standard.Least.{least-only}
-use Rattle.deduction.proofs.Standard.First.{shapeAt, alike-same, same-alike}
+use Rattle.deduction.proofs.Standard.First.{shapeAt, first, Plain, alike-same, same-alike, first-shape, first-same, set-first}
+use Rattle.deduction.proofs.Standard.Members.{rep-first}
 use Rattle.canonical.specs.Key.{keyOf, keyAt, keyKind, keyLeft, keyRight}
 
 -- a key that has two parts
@@ -130,6 +134,16 @@ module _ (e : ℕ → Entry) (n : ℕ) (down : Downward e n) (few : n ≤ 256) (
       go true p = eq-eqb (keyAt e j) (keyAt e i) (shape-key j i hj hi (alike-same (shapeAt e j) (shapeAt e i) p))
       go false p = ne-eqb (keyAt e j) (keyAt e i) (λ q. true≢false (sym (same-alike (shapeAt e j) (shapeAt e i) (key-shape j i hj hi q)) ∙ p))
 
+  -- entries of kinds 1 to 3 are the same term exactly when their keys are equal
+  pub key-term : (i j : ℕ) → i < n → j < n → Plain e i → Plain e j → (keyAt e i ≡ keyAt e j) ↔ (termAt e i ≈ termAt e j)
+  key-term i j hi hj pi pj = (
+    λ p. set-same e n down i j hi hj .0 (set-first e n down i hi pi ∙ ap (λ (x : ℕ). 2 ^ x) (first-same e i j (key-shape i j hi hj p)) ∙ sym (set-first e n down j hj pj)),
+    λ t. shape-key i j hi hj (sym (first-shape e i) ∙ ap (shapeAt e) (firsts t) ∙ first-shape e j),
+  )
+    where
+      firsts : termAt e i ≈ termAt e j → first e i ≡ first e j
+      firsts t = sym (rep-first e n down i hi pi) ∙ rep-of-set e i j (set-same e n down i j hi hj .1 t) ∙ rep-first e n down j hj pj
+
   -- the kind
   pub key-kind : (i : ℕ) → i < n → keyKind (keyAt e i) ≡ shapeAt e i .kind
   key-kind i h = sym (ap (λ (x : Shape). x .kind) (shape-at i h))
@@ -176,7 +190,7 @@ module _ (e : ℕ → Entry) (n : ℕ) (down : Downward e n) (few : n ≤ 256) (
       go (Enc m x) q k = (m, x, q)
       go (Sum items) q k = absurd (omega arith)
 
--- an entry's key is 0 exactly where it is zero or a sum
+-- only zero and sums have the key 0
 pub key-plain : (rep s : ℕ → ℕ) (d : Entry) → ¬ (keyOf rep d ≡ 0) → ¬ (shape s d .kind ≡ 0)
 unfolding shape keyOf
 key-plain rep s Zero h p = h refl
@@ -184,11 +198,3 @@ key-plain rep s (Atom a) h p = omega arith
 key-plain rep s (Pair l r) h p = omega arith
 key-plain rep s (Enc m k) h p = omega arith
 key-plain rep s (Sum items) h p = h refl
-
-pub key-zero : (rep s : ℕ → ℕ) (d : Entry) → keyOf rep d ≡ 0 → shape s d .kind ≡ 0
-unfolding shape keyOf
-key-zero rep s Zero h = refl
-key-zero rep s (Atom a) h = absurd (omega arith)
-key-zero rep s (Pair l r) h = absurd (omega arith)
-key-zero rep s (Enc m k) h = absurd (omega arith)
-key-zero rep s (Sum items) h = refl

@@ -1,19 +1,20 @@
 -- One line more: what the tables' first i lines say of entry i.
--- Shown: the line of an entry without a key, of one built like an earlier entry, and of a new standard entry, for a good sheet whose
--- tables are right so far. Assumes nothing.
-use mathlib.Core.Path.{_≡_, refl, sym, ap, ap₂, _∙_, subst}
-use mathlib.Core.List.{List, [], List·Memᴰ}
+-- Shown: for a good sheet whose tables are right so far, the line of zero or a sum, and the line of an entry of kind 1 to 3, be it built
+-- like an earlier entry or new. Assumes nothing.
+use mathlib.Core.Path.{_≡_, sym, ap, ap₂, _∙_, subst}
+use mathlib.Core.Logic.{by-cases}
+use mathlib.Core.List.{List, List·Memᴰ}
 use Prim.Native.Nat.{ℕ, _^_, _≤_, _<_}
+use native.Mathlib.Decide.{decLt}
 use native.Mathlib.Omega.{arith}
 use lib.Dec.{eqb}
-use lib.ListN.{length, getD}
+use lib.ListN.{length}
 use Rattle.bitset.specs.Words.{value}
 use Rattle.deduction.specs.Entry.{Entry, parts, Downward}
 use Rattle.deduction.specs.Standard.{least, firstAlike, xorAll, setAt, repAt}
 use Rattle.deduction.proofs.Standard.{rep-le, rep-set}
 use Rattle.deduction.proofs.Standard.Least.{least-same}
 use Rattle.deduction.proofs.Standard.Sets.{setAt-build, xorAll-same}
-use Rattle.deduction.proofs.Standard.First.{Plain}
 use Rattle.deduction.proofs.Standard.Members.{rep-first, standard-head, standard-set}
 use Rattle.dag.specs.Sheet.{countOf, recordAt, listed}
 use Rattle.dag.specs.Record.{kindOf, fits, itemCount, itemAt, decode, entryAt}
@@ -65,11 +66,8 @@ module _ {s : List ℕ} {i : ℕ} {keys : List ℕ} {sets : List (List ℕ)} {re
   ok : Good s
   ok = good s (g .accepted)
 
-  pub entry-below : i < 256
-  entry-below = omega (arith, ok .few)
-
   pub parts-below : (j : ℕ) → List·Memᴰ j (parts (decode r)) → j < 256
-  parts-below j m = omega (arith, entry-below, ok .downward i j (g .within) (subst (λ (l : List ℕ). List·Memᴰ j (parts (decode l))) (g .same) m))
+  parts-below j m = omega (arith, ok .few, ok .downward i j (g .within) (subst (λ (l : List ℕ). List·Memᴰ j (parts (decode l))) (g .same) m))
 
   down : Downward (entryAt s) (countOf s)
   down = ok .downward
@@ -106,28 +104,18 @@ module _ {s : List ℕ} {i : ℕ} {keys : List ℕ} {sets : List (List ℕ)} {re
       q ∙ ap (λ (x : ℕ). least (λ j. eqb (numberIn keys j) x) i) (key-right p)
       ∙ line-first (entryAt s) (countOf s) down few narrow i (g .within) keys sets reps (g .right) (λ w. z (key-right p ∙ w))
 
-  -- built like an earlier entry
-  pub found-line : {k f : ℕ} → k ≡ keyOf (numberIn reps) (decode r) → ¬ (k ≡ 0) → f ≡ least (λ j. eqb (numberIn keys j) k) i → f < i
-      → RightLine (entryAt s) i k (getD sets f []) f
-  found-line p z q l =
-      let t = first-right p z q in
-      record {
-        key = key-right p;
-        set = ap (setIn sets) t ∙ line-found (entryAt s) (countOf s) down few narrow i (g .within) keys sets reps (g .right) (subst (λ (x : ℕ). x < i) t l);
-        rep = t;
-      }
+  pub standard-line : {k f : ℕ} {set : List ℕ} → k ≡ keyOf (numberIn reps) (decode r) → ¬ (k ≡ 0) → f ≡ least (λ j. eqb (numberIn keys j) k) i
+      → (f < i → value set ≡ setIn sets f) → (i ≤ f → value set ≡ 2 ^ i) → RightLine (entryAt s) i k set f
+  standard-line {f = f} {set = set} p z q found new =
+      record { key = key-right p; set = by-cases (decLt f i) (λ l. earlier l) (λ l. alone (omega arith)); rep = first-right p z q }
+    where
+      earlier : f < i → value set ≡ setAt (entryAt s) i
+      earlier l =
+          found l ∙ ap (setIn sets) (first-right p z q)
+          ∙ line-found (entryAt s) (countOf s) down few narrow i (g .within) keys sets reps (g .right) (subst (λ (x : ℕ). x < i) (first-right p z q) l)
 
-  -- a new standard entry
-  pub new-line : {k f : ℕ} {set : List ℕ} → k ≡ keyOf (numberIn reps) (decode r) → ¬ (k ≡ 0) → f ≡ least (λ j. eqb (numberIn keys j) k) i → i ≤ f → value set ≡ 2 ^ i
-      → RightLine (entryAt s) i k set i
-  new-line p z q l v =
-      let own : repAt (entryAt s) i ≡ i = omega (arith, first-right p z q, rep-le (entryAt s) i) in
-      record {
-        key = key-right p;
-        set = v ∙ line-new (entryAt s) (countOf s) down few narrow i (g .within) keys sets reps (g .right) (λ w. z (key-right p ∙ w)) own;
-        rep = sym own;
-      }
-
-  -- a representative is a byte
-  pub rep-below : {k rep : ℕ} {set : List ℕ} → RightLine (entryAt s) i k set rep → rep < 256
-  rep-below l = omega (arith, l .rep, rep-le (entryAt s) i, entry-below)
+      alone : i ≤ f → value set ≡ setAt (entryAt s) i
+      alone l =
+          new l
+          ∙ line-new (entryAt s) (countOf s) down few narrow i (g .within) keys sets reps (g .right) (λ w. z (key-right p ∙ w))
+          (omega (arith, first-right p z q, rep-le (entryAt s) i))

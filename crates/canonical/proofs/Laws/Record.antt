@@ -1,21 +1,20 @@
 -- A record's key and parts, kind by kind.
 -- Shown: the key of a record of each kind; the parts of a pair and of an encryption; a record with the key 0 has its items for parts, and
 -- its set is the sum of theirs; the bytes of a sheet leave its atoms narrow. Assumes nothing.
-use mathlib.Core.Path.{_≡_, refl, sym, ap, _∙_, subst}
+use mathlib.Core.Path.{_≡_, refl, sym, ap, subst}
 use mathlib.Core.Bool.{true}
 use mathlib.Core.Logic.{by-cases}
-use mathlib.Core.List.{List, [], _∷_, _++_, List·Memᴰ, List·Memᴰ·head, List·Memᴰ·tail, Memᴰ·append-left, Memᴰ·append-right}
+use mathlib.Core.List.{List, [], _∷_, List·Memᴰ, List·Memᴰ·head, List·Memᴰ·tail, Memᴰ·append-left, Memᴰ·append-right}
 use Prim.Native.Nat.{ℕ, zero, suc, _+_, _*_, _-_, _/_, _^_, _≤_, _<_}
 use native.Mathlib.Decide.{decLt}
 use native.Mathlib.Omega.{arith}
-use lib.Dec.{eqb}
 use lib.ListN.{length, getD, take, drop, length-take, List·getD-eq-default}
 use lib.Seq.{getD-take, getD-drop}
 use borrow.Author.Tests.{eqb-true}
 use Rattle.deduction.specs.Entry.{Entry, Zero, Atom, Pair, Enc, Sum, parts}
 use Rattle.deduction.specs.Standard.{xorAll, buildSet}
 use Rattle.dag.specs.Sheet.{numberAt, recordAt, listed, offsetAt, lengthAt}
-use Rattle.dag.specs.Record.{kindOf, fits, itemCount, itemAt, decodeAs, decode, entryAt}
+use Rattle.dag.specs.Record.{kindOf, fits, itemCount, itemAt, decodeAs, entryAt}
 use Rattle.canonical.specs.Key.{keyOf}
 use Rattle.canonical.proofs.Laws.Key.{Narrow}
 

@@ -11,7 +11,7 @@ use Rattle.bitset.specs.Words.{value}
 use Rattle.deduction.specs.Entry.{Entry}
 use Rattle.deduction.specs.Standard.{setAt, repAt}
 use Rattle.canonical.specs.Key.{keyAt}
-use Rattle.canonical.specs.Tables.{RightLine, Right, Sized, Filled}
+use Rattle.canonical.specs.Tables.{RightLine, Sized, Filled}
 
 -- one table and a new element at i
 module _ {A : Type 0} (l : List A) (i : ℕ) (a d : A) where

@@ -1,9 +1,7 @@
 -- `canonical::key_of` meets its contract, kind by kind.
 use Prim.Native.Nat.{ℕ, _+_, _*_, _^_, _≤_}
-use mathlib.Core.Path.{_≡_, sym, ap, _∙_}
-use mathlib.Core.List.{List}
+use mathlib.Core.Path.{_≡_, ap, _∙_}
 use native.Mathlib.Omega.{arith}
-use lib.ListN.{getD}
 use borrow.Author.Needs.{needs}
 use denote.Ref.{now}
 use Rattle.dag.specs.Record.{kindOf}
@@ -20,15 +18,15 @@ high : (c : tie.Else3) → kindOf (now (c .before .before .before .before .befor
 high c = omega arith
 
 -- a key's three numbers, as read
-joined : (reps : List ℕ) {k k′ a a′ b b′ : ℕ} → k ≡ k′ → a ≡ a′ → b ≡ b′ → k * 2 ^ 32 + getD reps a 0 * 256 + getD reps b 0 ≡ k′ * 2 ^ 32 + getD reps a′ 0 * 256 + getD reps b′ 0
-joined reps p q r = λ i. p i * 2 ^ 32 + getD reps (q i) 0 * 256 + getD reps (r i) 0
+joined : {k k′ a a′ b b′ : ℕ} → k ≡ k′ → a ≡ a′ → b ≡ b′ → k * 2 ^ 32 + a * 256 + b ≡ k′ * 2 ^ 32 + a′ * 256 + b′
+joined p q r = λ i. p i * 2 ^ 32 + q i * 256 + r i
 
 kind-requires : tie.Need-kind-requires
 kind-requires c κs = search needs
 
 returns : tie.Need-returns
 returns c = let a = c .before .before .before .args in
-    zero-key (numberIn (now (a .reps))) (now (a .r)) (kindOf (now (a .r))) (sym (c .before .kind .ensures) ∙ c .if1 .taken)
+    zero-key (numberIn (now (a .reps))) (now (a .r)) (kindOf (now (a .r))) (omega arith)
 
 returns-2 : tie.Need-returns-2
 returns-2 c = let a = c .before .before .before .before .args in
@@ -50,19 +48,19 @@ returns-3 c = let a = c .before .before .before .before .before .before .args in
 second-requires : tie.Need-second-requires
 second-requires c κs = search needs
 
-cast-key : tie.Need-cast-key
-cast-key c = search needs
-
-element-copy-out-key : tie.Need-element-copy-out-key
-element-copy-out-key c = let a = c .before .before .before .before .before .before .before in
+cast-rep-in : tie.Need-cast-rep-in
+cast-rep-in c = let a = c .before .before .before .before .before .before .before in
     omega (arith, a .pre _ (first-part (now (a .args .r)) (kindOf (now (a .args .r))) (low (c .before)) (high (c .before))))
 
-cast-key-2 : tie.Need-cast-key-2
-cast-key-2 c = search needs
+rep-in-requires : tie.Need-rep-in-requires
+rep-in-requires c κs = search needs
 
-element-copy-out-key-2 : tie.Need-element-copy-out-key-2
-element-copy-out-key-2 c = let a = c .before .before .before .before .before .before .before .before in
+cast-rep-in-2 : tie.Need-cast-rep-in-2
+cast-rep-in-2 c = let a = c .before .before .before .before .before .before .before .before in
     omega (arith, a .pre _ (second-part (now (a .args .r)) (kindOf (now (a .args .r))) (low (c .before .before)) (high (c .before .before))))
+
+rep-in-requires-2 : tie.Need-rep-in-requires-2
+rep-in-requires-2 c κs = search needs
 
 key-requires : tie.Need-key-requires
 key-requires c κs = search needs
@@ -70,8 +68,10 @@ key-requires c κs = search needs
 returns-4 : tie.Need-returns-4
 returns-4 c = let b = c .before .before .before .before in
     let a = b .before .before .before .before .before .before .args in
-    c .key .ensures ∙ joined (now (a .reps)) (b .before .before .before .before .kind .ensures) (b .before .first .ensures) (c .before .before .before .second .ensures)
-    ∙ parts-key (numberIn (now (a .reps))) (now (a .r)) (kindOf (now (a .r))) (low b) (high b)
+    let reps = numberIn (now (a .reps)) in
+    c .key .ensures
+    ∙ joined (b .before .before .before .before .kind .ensures) (c .before .before .rep-in .ensures ∙ ap reps (b .before .first .ensures)) (c .before .rep-in2 .ensures ∙ ap reps (c .before .before .before .second .ensures))
+    ∙ parts-key reps (now (a .r)) (kindOf (now (a .r))) (low b) (high b)
 
 pub key-of-spec : {M : Type 1} → statement M
 key-of-spec =
@@ -85,9 +85,9 @@ key-of-spec =
     add-result
     returns-3
     second-requires
-    cast-key
-    element-copy-out-key
-    cast-key-2
-    element-copy-out-key-2
+    cast-rep-in
+    rep-in-requires
+    cast-rep-in-2
+    rep-in-requires-2
     key-requires
     returns-4)

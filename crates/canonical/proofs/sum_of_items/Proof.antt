@@ -1,5 +1,5 @@
 -- `canonical::sum_of_items` meets its contract. The loop's invariant: the sum of the sets of the items so far.
-use Prim.Native.Nat.{ℕ, _-_, _≤_, _<_}
+use Prim.Native.Nat.{ℕ, _-_, _≤_}
 use mathlib.Core.Path.{_≡_, ap, ap₂, _∙_}
 use native.Mathlib.Omega.{arith}
 use lib.Bits.{bitXor}
@@ -15,14 +15,14 @@ use Rattle.canonical.proofs.sum_of_items.Statement.{statement}
 use Rattle.canonical.proofs.sum_of_items.Tie as tie
 
 abbrev Inv-loop : tie.InvT-loop
-Inv-loop r sets n sum₀ j₀ sum j =
-    (j ≤ n) × (n ≡ itemCount r) × (value sum ≡ xorAll (setIn sets) (listed (itemAt r) j))
+Inv-loop r sets n sum₀ k₀ sum k =
+    (k ≤ n) × (n ≡ itemCount r) × (value sum ≡ xorAll (setIn sets) (listed (itemAt r) k))
 
 abbrev μ-loop : tie.MeasureT-loop
-μ-loop r sets n sum₀ j₀ sum j =
-    n - j
+μ-loop r sets n sum₀ k₀ sum k =
+    n - k
 
-done : (c : tie.After-loop Inv-loop μ-loop) → c .before .loop .j ≡ itemCount (now (c .before .before .before .before .before .args .r))
+done : (c : tie.After-loop Inv-loop μ-loop) → c .before .loop .k ≡ itemCount (now (c .before .before .before .before .before .args .r))
 done c = omega arith
 
 item-count-requires : tie.Need-item-count-requires Inv-loop μ-loop
@@ -45,22 +45,17 @@ number-at-requires : tie.Need-number-at-requires Inv-loop μ-loop
 number-at-requires c κs = search needs
 
 cast-i : tie.Need-cast-i Inv-loop μ-loop
-cast-i c = search needs
-
-mul-sum : tie.Need-mul-sum Inv-loop μ-loop
-mul-sum c = search needs
-
-element-copy-out-sum : tie.Need-element-copy-out-sum Inv-loop μ-loop
-element-copy-out-sum c = let s = c .before .before .before .before .before .before in
-    let l = c .before .before .loop in
-    let h = s .pre (l .j) (omega arith) in
+cast-i c = let h = c .before .before .before .before .before .before .pre (c .before .before .loop .k) (omega arith) in
     omega arith
+
+set-in-requires : tie.Need-set-in-requires Inv-loop μ-loop
+set-in-requires c κs = search needs
 
 sum-requires : tie.Need-sum-requires Inv-loop μ-loop
 sum-requires c κs = search needs
 
-add-j : tie.Need-add-j Inv-loop μ-loop
-add-j c = search needs
+add-k : tie.Need-add-k Inv-loop μ-loop
+add-k c = search needs
 
 loop-less : tie.Need-loop-less Inv-loop μ-loop
 loop-less c = search needs
@@ -68,11 +63,11 @@ loop-less c = search needs
 loop-again : tie.Need-loop-again Inv-loop μ-loop
 loop-again c = let a = c .before .before .before .before .before .before .before .before .args in
     let l = c .before .before .before .before .loop in
-    (omega arith, l .inv .1, c .sum .ensures ∙ ap₂ bitXor (l .inv .2) (ap (setIn (now (a .sets))) (c .before .before .number-at .ensures)) ∙ items-more (setIn (now (a .sets))) (itemAt (now (a .r))) (l .j))
+    (omega arith, l .inv .1, c .sum .ensures ∙ ap₂ bitXor (l .inv .2) (c .before .set-in .ensures ∙ ap (setIn (now (a .sets))) (c .before .before .number-at .ensures)) ∙ items-more (setIn (now (a .sets))) (itemAt (now (a .r))) (l .k))
 
 returns : tie.Need-returns Inv-loop μ-loop
 returns c = let a = c .before .before .before .before .before .args in
-    c .before .loop .inv .2 ∙ ap (λ (k : ℕ). xorAll (setIn (now (a .sets))) (listed (itemAt (now (a .r))) k)) (done c)
+    c .before .loop .inv .2 ∙ ap (λ (j : ℕ). xorAll (setIn (now (a .sets))) (listed (itemAt (now (a .r))) j)) (done c)
 
 pub sum-of-items-spec : {M : Type 1} → statement M
 sum-of-items-spec =
@@ -87,10 +82,9 @@ sum-of-items-spec =
     add-number-at
     number-at-requires
     cast-i
-    mul-sum
-    element-copy-out-sum
+    set-in-requires
     sum-requires
-    add-j
+    add-k
     loop-less
     loop-again
     returns)

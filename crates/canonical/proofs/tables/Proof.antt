@@ -35,6 +35,9 @@ loop-holds : tie.Need-loop-holds Inv-loop μ-loop
 loop-holds c = let a = c .before .before .args in
     (search needs, c .count .ensures, filled-none (entryAt (now (a .s))) (now (a .keys)) (now (a .sets)) (now (a .reps)) (c .before .before .pre .1))
 
+cast-line-of : tie.Need-cast-line-of Inv-loop μ-loop
+cast-line-of c = omega (arith, below c)
+
 line-of-requires : tie.Need-line-of-requires Inv-loop μ-loop
 line-of-requires c κs = let l = c .before .before .before .before .loop in
     (c .before .before .before .before .before .before .before .pre .0, (omega arith, l .inv .2 .right))
@@ -82,6 +85,7 @@ tables-spec =
     μ-loop
     count-requires
     loop-holds
+    cast-line-of
     line-of-requires
     cast-at
     mul-keys
