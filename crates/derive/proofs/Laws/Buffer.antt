@@ -4,8 +4,8 @@ use mathlib.Core.List.{List, [], _∷_, _++_, append-assoc, append-nil}
 use Prim.Native.Nat.{ℕ, zero, suc, _+_, _-_, _*_, _≤_}
 use native.Mathlib.Nat.{le-trans, le-of-eq, mul-suc}
 use native.Mathlib.Omega.{arith}
-use lib.ListN.{length, take, drop, length-append, length-drop}
-use lib.Seq.{take-at, drop-at, length-take-le, drop-drop}
+use lib.ListN.{length, take, drop, length-append, length-drop, drop-of-length-le}
+use lib.Seq.{take-at, drop-at, length-take-le, take-all, drop-drop}
 use Rattle.bitset.specs.Words.{bytesOf}
 use Rattle.bitset.proofs.Laws.Bytes.{length-bytesOf}
 use Rattle.deduction.specs.Step.{Step}
@@ -73,3 +73,21 @@ module _ (out₀ : List ℕ) (ss : List Step) (made : ℕ) (many : length ss ≡
     where
       back : (a b : ℕ) → a ≤ b → a + (b - a) ≡ b
       back a b l = omega arith
+
+-- the part of a buffer from a place on, lent and given back
+module _ (out : List ℕ) (from : ℕ) where
+  part-whole : take (length out - from) (drop from out) ≡ drop from out
+  part-whole = take-all (length out - from) (drop from out) (le-of-eq (length-drop from out))
+
+  pub part-room : (k : ℕ) → from + k ≤ length out → k ≤ length (take (length out - from) (drop from out))
+  part-room k h = le-trans (room (length out) h) (le-of-eq (sym (ap length part-whole ∙ length-drop from out)))
+    where
+      room : (n : ℕ) → from + k ≤ n → k ≤ n - from
+      room n l = omega arith
+
+  pub part-back : (b part : List ℕ) → part ≡ b ++ drop 40 (take (length out - from) (drop from out))
+      → take from out ++ (part ++ drop (length out - from) (drop from out)) ≡ take from out ++ (b ++ drop 40 (drop from out))
+  part-back b part p =
+      ap (λ (l : List ℕ). take from out ++ l)
+        (ap₂ _++_ (p ∙ ap (λ (l : List ℕ). b ++ drop 40 l) part-whole) (drop-of-length-le (drop from out) (le-of-eq (length-drop from out)))
+        ∙ append-nil (b ++ drop 40 (drop from out)))
