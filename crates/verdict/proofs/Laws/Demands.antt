@@ -1,0 +1,201 @@
+-- The demands of a call that isn't refused, from the theorems over steps and derivations.
+-- Shown: `meets`, for a good sheet and the outcome of its run, in whatever buffer the steps are read back. Assumes nothing.
+use mathlib.Core.Path.{_≡_, refl, sym, ap, _∙_, subst}
+use mathlib.Core.Bool.{true, false}
+use mathlib.Core.Logic.{_⊎_, inl, inr, ⊎-elim, _↔_}
+use mathlib.Core.List.{List, [], _∷_, _++_, map, List·Memᴰ, List·Memᴰ·not-nil, List·Memᴰ·head, List·Memᴰ·tail, List·Memᴰ·cases-cons, List·Memᴰ·append-cases, List·Memᴰ·eq-of-singleton, Memᴰ·append-left, Memᴰ·append-right, Memᴰ·cast}
+use Prim.Native.Nat.{ℕ, zero, suc, _+_, _*_, _^_, _≤_, _<_}
+use native.Mathlib.Nat.{le-trans, lt-of-lt-of-le, lt-of-le-of-lt, le-of-eq, le-refl}
+use native.Mathlib.Omega.{arith}
+use lib.ListN.{length, take, drop}
+use lib.Pow.{pow-mono, pow-pos}
+use Rattle.bitset.specs.Set.{member}
+use Rattle.bitset.proofs.Laws.Sums.{below-members}
+use Rattle.deduction.specs.Term.{Term, sumOf, _≈_}
+use Rattle.deduction.specs.Derivation.{Holds, Derivable}
+use Rattle.deduction.specs.Entry.{Entry, termAt, Downward}
+use Rattle.deduction.specs.Standard.{repAt}
+use Rattle.deduction.specs.Step.{Step, Follows, IsNext, Made}
+use Rattle.deduction.specs.Run.{Verdict, derivable, underivable, exhausted, Outcome, run}
+use Rattle.deduction.specs.Replay.{Replays, endState}
+use Rattle.deduction.proofs.Steps.{Heads, made, learnt-steps, learnt-heads, steps-le, steps-budget, exhausted-exact, run-enough, trace-run-replays, trace-underivable-exact, trace-underivable-iff, trace-heads}
+use Rattle.deduction.proofs.Standard.{rep-equal}
+use Rattle.dag.specs.Sheet.{countOf, goalOf, traceAt, traceLength, traceOf, listed}
+use Rattle.dag.specs.Record.{entryAt}
+use Rattle.dag.specs.Refusal.{refusal}
+use Rattle.dag.proofs.Laws.Good.{Good, good}
+use Rattle.derive.specs.Bytes.{stepsBytes}
+use Rattle.verdict.specs.Answer.{startOf, outcomeOf, verdictCode}
+use Rattle.verdict.specs.Demands.{startTerms, goalTerm, startHeads, stepsIn, Passes, Reached, OutOfReach, Stopped, Meets}
+use Rattle.verdict.proofs.Laws.Readback.{Narrow, read-back}
+
+-- the set of a step that follows has members below n only
+follows-narrow : (t : ℕ → Term) (n : ℕ) → n ≤ 256 → (es : List ℕ) → ((i : ℕ) → List·Memᴰ i es → i < n) → {s : Step} → Follows t n es s → Narrow s
+follows-narrow t n few es below (Follows.first b o k p) = pow-pos 256
+follows-narrow t n few es below (Follows.second a o k p) = pow-pos 256
+follows-narrow t n few es below (Follows.decrypt o k j p) = pow-pos 256
+follows-narrow t n few es below (Follows.join o k j p) = pow-pos 256
+follows-narrow t n few es below (Follows.encrypt o k j p) = pow-pos 256
+follows-narrow t n few es below (Follows.sum u o d p) = lt-of-lt-of-le (below-members n u (λ j m. below j (known j (d j m)))) (pow-mono few)
+  where
+    known : (j : ℕ) → (before after : List ℕ) × (es ≡ before ++ (j ∷ after)) × ((js : List ℕ) → ((i : ℕ) → List·Memᴰ i js → List·Memᴰ i before) → ¬ (t j ≈ sumOf (map t js))) → List·Memᴰ j es
+    known j (before, after, e, q) = subst (λ (l : List ℕ). List·Memᴰ j l) (sym e) (Memᴰ·append-right before (List·Memᴰ·head refl))
+
+-- so has every step made
+made-narrow : (e : ℕ → Entry) (n : ℕ) → Downward e n → n ≤ 256 → {es : List ℕ} {ss : List Step} → Made (termAt e) n es ss → ((i : ℕ) → List·Memᴰ i es → i < n) → (s : Step) → List·Memᴰ s ss → Narrow s
+made-narrow e n down few Made.none below s m = absurd (List·Memᴰ·not-nil m)
+made-narrow e n down few (Made.more {es = es} {s = r} next rest) below s m =
+    ⊎-elim (λ p. subst Narrow (sym p) (follows-narrow (termAt e) n few es below (next .0)))
+    (λ q. made-narrow e n down few rest (λ i h. ⊎-elim (below i) (λ z. subst (λ (x : ℕ). x < n) (sym (List·Memᴰ·eq-of-singleton z)) (open-below (next .0))) (List·Memᴰ·append-cases es h)) s q)
+    (List·Memᴰ·cases-cons m)
+  where
+    open-below : {s : Step} → Follows (termAt e) n es s → s .head < n
+    open-below (Follows.first b o k p) = o .0 .0
+    open-below (Follows.second a o k p) = o .0 .0
+    open-below (Follows.decrypt o k j p) = o .0 .0
+    open-below (Follows.join o k j p) = o .0 .0
+    open-below (Follows.encrypt o k j p) = o .0 .0
+    open-below (Follows.sum u o d p) = o .0 .0
+
+-- every heard entry before the cut is an entry
+listed-from : (f : ℕ → ℕ) (n i : ℕ) → List·Memᴰ i (listed f n) → (k : ℕ) × (k < n) × (i ≡ f k)
+unfolding listed
+listed-from f zero i m = absurd (List·Memᴰ·not-nil m)
+listed-from f (suc n) i m =
+    ⊎-elim (λ q. let (k, h, p) = listed-from f n i q in (k, le-trans h (omega arith), p)) (λ q. (n, le-refl (suc n), List·Memᴰ·eq-of-singleton q)) (List·Memᴰ·append-cases (listed f n) m)
+
+pub trace-below : (s : List ℕ) → Good s → (cut : ℕ) → cut ≤ traceLength s → (i : ℕ) → List·Memᴰ i (traceOf s cut) → i < countOf s
+trace-below s g cut h i m =
+    let (k, l, p) = listed-from (traceAt s) cut i m in
+    subst (λ (x : ℕ). x < countOf s) (sym p) (g .listed k (le-trans l h))
+
+mapped-from : (f : ℕ → Term) (l : List ℕ) (u : Term) → List·Memᴰ u (map f l) → (i : ℕ) × List·Memᴰ i l × (u ≡ f i)
+mapped-from f [] u m = absurd (List·Memᴰ·not-nil m)
+mapped-from f (x ∷ l) u m =
+    ⊎-elim (λ p. (x, List·Memᴰ·head refl, p)) (λ q. let (i, k, p) = mapped-from f l u q in (i, List·Memᴰ·tail k, p)) (List·Memᴰ·cases-cons m)
+
+-- a known term is known as its head
+held-known : (e : ℕ → Entry) (n : ℕ) → Downward e n → (es : List ℕ) → Heads e n es → (goal : ℕ) → goal < n → Holds (map (termAt e) es) (termAt e goal) → List·Memᴰ (repAt e goal) es
+held-known e n down es heads goal low (u, m, p) =
+    let (i, k, q) = mapped-from (termAt e) es u m in
+    let same : repAt e i ≡ repAt e goal = rep-equal e n down i goal (heads i k .0) low .1 (subst (λ (v : Term). v ≈ termAt e goal) q p) in
+    Memᴰ·cast (sym same ∙ heads i k .1) k
+
+module _ (s : List ℕ) (cut budget : ℕ) (ok : refusal s ≡ 0) (within : cut ≤ traceLength s) where
+  g : Good s
+  g = good s ok
+
+  -- the outcome of the run
+  abbrev o : Outcome
+  o = outcomeOf s cut budget
+
+  -- what the theorems say of the run
+  below : (i : ℕ) → List·Memᴰ i (traceOf s cut) → i < countOf s
+  below = trace-below s g cut within
+
+  heads : Heads (entryAt s) (countOf s) (startHeads s cut)
+  heads = trace-heads (entryAt s) (countOf s) (g .downward) (traceOf s cut) below
+
+  run-made : Made (termAt (entryAt s)) (countOf s) (startHeads s cut) (o .steps)
+  unfolding outcomeOf startOf
+  run-made = made (entryAt s) (countOf s) (g .downward) (g .few) (goalOf s) budget (startHeads s cut) heads
+
+  run-narrow : (r : Step) → List·Memᴰ r (o .steps) → Narrow r
+  run-narrow = made-narrow (entryAt s) (countOf s) (g .downward) (g .few) run-made (λ i m. heads i m .0)
+
+  run-few : length (o .steps) ≤ countOf s
+  unfolding outcomeOf startOf
+  run-few = steps-le (entryAt s) (countOf s) (g .downward) (g .few) (goalOf s) budget (startHeads s cut) heads
+
+  run-passes : o .verdict ≡ derivable → (end : List Term) × Replays (termAt (entryAt s)) (countOf s) (startTerms s cut) (o .steps) end × Holds end (goalTerm s)
+  unfolding outcomeOf startOf
+  run-passes p =
+      let (r, h) = trace-run-replays (entryAt s) (countOf s) (g .downward) (g .few) (goalOf s) budget (traceOf s cut) below (g .goal) p in
+      (endState (termAt (entryAt s)) (startTerms s cut) (o .steps), r, h)
+
+  run-out : o .verdict ≡ underivable → ¬ Derivable (startTerms s cut) (goalTerm s)
+  unfolding outcomeOf startOf
+  run-out = trace-underivable-exact (entryAt s) (countOf s) (g .downward) (g .few) (goalOf s) budget (traceOf s cut) below (g .goal)
+
+  run-iff : countOf s ≤ budget → (o .verdict ≡ underivable) ↔ (¬ Derivable (startTerms s cut) (goalTerm s))
+  unfolding outcomeOf startOf
+  run-iff = trace-underivable-iff (entryAt s) (countOf s) (g .downward) (g .few) (goalOf s) budget (traceOf s cut) below (g .goal)
+
+  run-ends : countOf s ≤ budget → ¬ (o .verdict ≡ exhausted)
+  unfolding outcomeOf startOf
+  run-ends = run-enough (entryAt s) (countOf s) (g .downward) (g .few) (goalOf s) budget (startHeads s cut) heads
+
+  run-stopped : o .verdict ≡ exhausted
+      → (length (o .steps) ≡ budget) × (¬ Holds (map (termAt (entryAt s)) (startHeads s cut ++ map (λ (r : Step). r .head) (o .steps))) (goalTerm s))
+        × ((r : Step) × Follows (termAt (entryAt s)) (countOf s) (startHeads s cut ++ map (λ (r : Step). r .head) (o .steps)) r)
+  unfolding outcomeOf startOf
+  run-stopped p =
+      let (q, unknown, (r, f)) = exhausted-exact (entryAt s) (countOf s) (g .downward) (g .few) (goalOf s) budget (startHeads s cut) heads p in
+      let l = learnt-steps (entryAt s) (countOf s) (g .downward) (g .few) (goalOf s) budget (startHeads s cut) heads in
+      (q,
+      (λ h. unknown (held-known (entryAt s) (countOf s) (g .downward) (o .learnt) (learnt-heads (entryAt s) (countOf s) (g .downward) (g .few) (goalOf s) budget (startHeads s cut) heads) (goalOf s) (g .goal)
+        (subst (λ (es : List ℕ). Holds (map (termAt (entryAt s)) es) (goalTerm s)) (sym l) h))),
+      (r, subst (λ (es : List ℕ). Follows (termAt (entryAt s)) (countOf s) es r) l f))
+
+  -- the number of a verdict and a count names both
+  module _ (answer : ℕ) (is : answer ≡ verdictCode (o .verdict) + length (o .steps)) where
+    as-verdict : (v : Verdict) → o .verdict ≡ v → answer ≡ verdictCode v + length (o .steps)
+    as-verdict v p = is ∙ ap (λ (w : Verdict). verdictCode w + length (o .steps)) p
+
+    few-steps : length (o .steps) ≤ 256
+    few-steps = le-trans run-few (g .few)
+
+    is-reached : Reached answer (length (o .steps)) → o .verdict ≡ derivable
+    is-reached h = go (o .verdict) refl
+      where
+        go : (v : Verdict) → o .verdict ≡ v → o .verdict ≡ derivable
+        go derivable p = p
+        go underivable p = absurd (omega (arith, h .0, as-verdict underivable p))
+        go exhausted p = absurd (omega (arith, h .0, as-verdict exhausted p))
+
+    is-out : OutOfReach answer (length (o .steps)) → o .verdict ≡ underivable
+    is-out h = go (o .verdict) refl
+      where
+        go : (v : Verdict) → o .verdict ≡ v → o .verdict ≡ underivable
+        go derivable p = absurd (omega (arith, h .0, as-verdict derivable p))
+        go underivable p = p
+        go exhausted p = absurd (omega (arith, h .0, as-verdict exhausted p))
+
+    is-stopped : Stopped answer (length (o .steps)) → o .verdict ≡ exhausted
+    is-stopped h = go (o .verdict) refl
+      where
+        go : (v : Verdict) → o .verdict ≡ v → o .verdict ≡ exhausted
+        go derivable p = absurd (omega (arith, h .0, as-verdict derivable p))
+        go underivable p = absurd (omega (arith, h .0, as-verdict underivable p))
+        go exhausted p = p
+
+    kind : (v : Verdict) → o .verdict ≡ v → Reached answer (length (o .steps)) ⊎ (OutOfReach answer (length (o .steps)) ⊎ Stopped answer (length (o .steps)))
+    kind derivable p = inl (as-verdict derivable p, few-steps)
+    kind underivable p = inr (inl (as-verdict underivable p, few-steps))
+    kind exhausted p = inr (inr (as-verdict exhausted p, few-steps))
+
+    settled : countOf s ≤ budget → ¬ OutOfReach answer (length (o .steps)) → (v : Verdict) → o .verdict ≡ v → Reached answer (length (o .steps))
+    settled l n derivable p = (as-verdict derivable p, few-steps)
+    settled l n underivable p = absurd (n (as-verdict underivable p, few-steps))
+    settled l n exhausted p = absurd (run-ends l p)
+
+    -- the demands, read off the buffer
+    pub meets : (front rest : List ℕ) → length front ≡ 32 → Meets s cut budget (front ++ (stepsBytes (outcomeOf s cut budget .steps) ++ rest)) answer
+    meets front rest h =
+        let out = front ++ (stepsBytes (o .steps) ++ rest) in
+        let back : o .steps ≡ stepsIn out (length (o .steps)) = sym (read-back front (o .steps) rest h run-narrow) in
+        record {
+          count = length (o .steps);
+          kinds = kind (o .verdict) refl;
+          ordered = subst (Made (termAt (entryAt s)) (countOf s) (startHeads s cut)) back run-made;
+          exact = λ l. ((λ h. run-iff l .0 (is-out h)), λ n. (as-verdict underivable (run-iff l .1 n), few-steps));
+          otherwise = λ l n. settled l n (o .verdict) refl;
+          reached = λ h. (subst (λ (ss : List Step). (end : List Term) × Replays (termAt (entryAt s)) (countOf s) (startTerms s cut) ss end × Holds end (goalTerm s)) back (run-passes (is-reached h)), run-few);
+          out-of-reach = λ h. run-out (is-out h);
+          stopped = λ h.
+            subst
+            (λ (ss : List Step).
+              (length (o .steps) ≡ budget) × (¬ Holds (map (termAt (entryAt s)) (startHeads s cut ++ map (λ (r : Step). r .head) ss)) (goalTerm s))
+              × ((r : Step) × Follows (termAt (entryAt s)) (countOf s) (startHeads s cut ++ map (λ (r : Step). r .head) ss) r))
+            back (run-stopped (is-stopped h))
+        }

@@ -1,0 +1,5 @@
+-- Reading order: the answer and the buffer of a call, as equations; the demands, as one statement about whole derivations.
+pub mod Answer
+pub mod Demands
+pub mod Code
+pub mod Inner

@@ -1,0 +1,143 @@
+// The verdict: can an intruder who heard the messages before the cut derive the goal?
+ghost use mathlib.Core.Path.{_≡_};
+ghost use mathlib.Core.List.{[], _++_};
+ghost use Prim.Native.Nat.{ℕ, _+_, _*_, _≤_, _<_};
+ghost use lib.ListN.{length, getD, take, drop};
+ghost use Rattle.bitset.specs.Words.{value, bytesOf};
+ghost use Rattle.deduction.specs.Standard.{setAt};
+ghost use Rattle.deduction.specs.Run.{knowledge};
+ghost use Rattle.dag.specs.Sheet.{countOf, traceLength};
+ghost use Rattle.dag.specs.Record.{entryAt};
+ghost use Rattle.dag.specs.Refusal.{refusal};
+ghost use Rattle.dag.specs.Code.{codeOf};
+ghost use Rattle.canonical.specs.Tables.{Right, Sized};
+ghost use Rattle.knowledge.specs.Rows.{Remainders};
+ghost use Rattle.knowledge.specs.State.{stateOf, Room};
+ghost use Rattle.derive.specs.Ran.{verdictOf};
+ghost use Rattle.derive.specs.Bytes.{stepsBytes};
+ghost use Rattle.verdict.specs.Answer.{refusalOf, startOf, outcomeOf, answerOf, bufferOf};
+ghost use Rattle.verdict.specs.Demands.{Meets};
+ghost use Rattle.verdict.specs.Code.{numberOf};
+ghost use Rattle.verdict.specs.Inner.{Heard, Decided};
+
+use dag::sheet;
+use dag::Refusal;
+use knowledge::Learnt;
+use derive::run::Ended;
+use derive::run::Verdict;
+
+// The answer: refused, or the verdict with the number of steps made (document 01: reached, out of reach, stopped).
+pub enum Answer {
+    Refused(Refusal),
+    Derivable(u16),
+    Underivable(u16),
+    Exhausted(u16),
+}
+
+// Learns the heard messages before the cut, in order, each as its representative.
+fn hear(s: &[u8], cut: u16, sets: &[[u64; 4]; 256], reps: &[u8; 256], rows: &mut [u64; 2048], remainders: &mut [[u64; 4]; 256]) -> Learnt
+    requires { ⌜ Heard (now s) cut (now sets) (now reps) (now rows) (now remainders) ⌝ }
+    ensures state { λ r. ⌜ stateOf (r .known) (now (rows .exit)) (r .len) ≡ knowledge (entryAt (now (s .entry))) (startOf (now (s .entry)) cut) ⌝ }
+    ensures room { λ r. ⌜ Room (r .known) (r .len) ⌝ }
+    ensures sizes { λ _. ⌜ (length (now (rows .exit)) ≡ 2048) × (length (now (remainders .exit)) ≡ 256) ⌝ }
+    ensures cache { λ r. ⌜ Remainders (setAt (entryAt (now (s .entry)))) (countOf (now (s .entry))) (now (rows .exit)) (r .len) (now (remainders .exit)) ⌝ }
+{
+    let n = sheet::count(s) as usize;
+    let mut known = bitset::empty();
+    let mut len: usize = 0;
+    let mut k: u16 = 0;
+    while k < cut {
+        let e = reps[sheet::trace_at(s, k) as usize];
+        let learnt = knowledge::gain(known, rows, len, remainders, n, e, sets[e as usize]);
+        let more = learnt.known;
+        known = more;
+        len = learnt.len;
+        k += 1;
+    }
+    Learnt { known, len }
+}
+
+// The verdict on a good sheet, with the steps and the known set written to out.
+fn decide(s: &[u8], cut: u16, budget: u16, out: &mut [u8]) -> Ended
+    requires { ⌜ (refusal (now s) ≡ 0) × (cut ≤ traceLength (now s)) × (budget ≤ 256) × (32 + 40 * budget ≤ length (now out)) ⌝ }
+    ensures { λ r. ⌜ Decided (now (s .entry)) cut budget (now (out .entry)) (now (out .exit)) r ⌝ }
+{
+    let mut keys = [0u64; 256];
+    let mut sets = [[0u64; 4]; 256];
+    let mut reps = [0u8; 256];
+    let mut rows = [0u64; 2048];
+    canonical::tables(s, &mut keys, &mut sets, &mut reps);
+    let mut remainders = sets;
+    let heard = hear(s, cut, &sets, &reps, &mut rows, &mut remainders);
+    let known = heard.known;
+    let ended = derive::run::run(s, &keys, &sets, &reps, known, &mut rows, heard.len, &mut remainders, budget, out);
+    let gained = ended.known;
+    let _fits = bitset::write(gained, out);
+    ended
+}
+
+// Which row of the grounding table refuses the call, if any.
+fn refused(sheet: &[u8], cut: u32, budget: u32, space: usize) -> Refusal
+    ensures { λ r. ⌜ codeOf r ≡ refusalOf (now (sheet .entry)) cut budget space ⌝ }
+{
+    let r = dag::validate(sheet);
+    if dag::code(r) != 0 {
+        return r;
+    }
+    if (sheet::trace_len(sheet) as u32) < cut {
+        return Refusal::PastTheLog;
+    }
+    if 256 < budget {
+        return Refusal::OverBudget;
+    }
+    if space < 32 + 40 * (budget as usize) {
+        return Refusal::NoSpace;
+    }
+    Refusal::Nothing
+}
+
+// The verdict call. A refusal leaves every byte of out; otherwise out gets the known set, 40 bytes a step, and keeps its later bytes.
+pub fn verdict(sheet: &[u8], cut: u32, budget: u32, out: &mut [u8]) -> Answer
+    ensures answer { λ r. ⌜ numberOf r ≡ answerOf (now (sheet .entry)) cut budget (length (now (out .entry))) ⌝ }
+    ensures bytes { λ _. ⌜ now (out .exit) ≡ bufferOf (now (sheet .entry)) cut budget (now (out .entry)) ⌝ }
+    ensures demands {
+        λ r. ⌜ (refusalOf (now (sheet .entry)) cut budget (length (now (out .entry))) ≡ 0 → Meets (now (sheet .entry)) cut budget (now (out .exit)) (numberOf r)) ⌝
+    }
+{
+    let r = refused(sheet, cut, budget, out.len());
+    if dag::code(r) != 0 {
+        return Answer::Refused(r);
+    }
+    let ended = decide(sheet, cut as u16, budget as u16, out);
+    let made = ended.made;
+    let v = ended.verdict;
+    match v {
+        Verdict::Derivable => Answer::Derivable(made),
+        Verdict::Underivable => Answer::Underivable(made),
+        Verdict::Exhausted => Answer::Exhausted(made),
+    }
+}
+
+// The number of an answer: a refusal's, or the steps made plus 1,000, 2,000 or 3,000.
+fn number(a: Answer) -> u32
+    ensures { λ r. ⌜ r ≡ numberOf a ⌝ }
+{
+    match a {
+        Answer::Refused(r) => dag::code(r),
+        Answer::Derivable(n) => 1000 + (n as u32),
+        Answer::Underivable(n) => 2000 + (n as u32),
+        Answer::Exhausted(n) => 3000 + (n as u32),
+    }
+}
+
+// The same for callers in C, on numbers and byte buffers.
+#[no_mangle]
+pub extern "C" fn zuwendryk_verdict(sheet: &[u8], cut: u32, budget: u32, buffer: &mut [u8]) -> u32
+    ensures answer { λ r. ⌜ r ≡ answerOf (now (sheet .entry)) cut budget (length (now (buffer .entry))) ⌝ }
+    ensures bytes { λ _. ⌜ now (buffer .exit) ≡ bufferOf (now (sheet .entry)) cut budget (now (buffer .entry)) ⌝ }
+    ensures demands {
+        λ r. ⌜ (refusalOf (now (sheet .entry)) cut budget (length (now (buffer .entry))) ≡ 0 → Meets (now (sheet .entry)) cut budget (now (buffer .exit)) r) ⌝
+    }
+{
+    number(verdict(sheet, cut, budget, buffer))
+}
