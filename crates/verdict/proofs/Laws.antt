@@ -1,2 +1,4 @@
 pub mod Readback
 pub mod Demands
+pub mod Hearing
+pub mod Decide

@@ -1,0 +1,59 @@
+-- `verdict::decide` meets its contract: the tables, the heard messages, the run, and the known set.
+use mathlib.Core.Path.{_≡_, refl, sym, ap, _∙_}
+use native.Mathlib.Omega.{arith}
+use borrow.Author.Needs.{needs}
+use denote.Ref.{now}
+use Rattle.verdict.specs.Inner.{Heard}
+use Rattle.verdict.proofs.Laws.Decide.{decided}
+use Rattle.derive.specs.Ran.{Ready}
+use Rattle.verdict.proofs.decide.Statement.{statement}
+use Rattle.verdict.proofs.decide.Tie as tie
+
+tables-requires : tie.Need-tables-requires
+tables-requires c κs = (c .before .before .before .before .before .pre .0, record { key = refl; set = refl; rep = refl })
+
+hear-requires : tie.Need-hear-requires
+hear-requires c κs = let s = c .before .before .before .before .before .before .before .before .before .before in
+    let t = c .before .before .before .before .tables .ensures in
+    record {
+      good = s .pre .0;
+      within = s .pre .1;
+      set = t .right .set;
+      rep = t .right .rep;
+      words = refl;
+      lines = t .sized .set;
+      fresh = t .right .set
+    }
+
+run-requires : tie.Need-run-requires
+run-requires c κs = let s = c .before .before .before .before .before .before .before .before .before .before .before .before .before .before .before .before .before .before in
+    let t = c .before .before .before .before .before .before .before .before .before .before .before .before .tables .ensures in
+    let h = c .before .before .before .before .before .before .before .hear .ensures in
+    record {
+      good = s .pre .0;
+      right = t .right;
+      sized = t .sized;
+      words = h .1 .1 .0 .0;
+      lines = h .1 .1 .0 .1;
+      room = h .1 .0;
+      cache = h .1 .1 .1;
+      limit = s .pre .2;
+      space = s .pre .3
+    }
+
+write-requires : tie.Need-write-requires
+write-requires c κs = search needs
+
+same-length : tie.Need-same-length
+same-length c = search needs
+
+returns : tie.Need-returns
+returns c = let s = c .before .before .before .before .before .before .before .before .before .before .before .before .before .before .before .before .before .before .before .before .before .before .before .before .before .before in
+    let h = c .before .before .before .before .before .before .before .before .before .before .before .before .before .before .before .hear in
+    decided (now (s .args .s)) (s .args .cut) (s .args .budget) (h .result .known) (h .last .1 .1 .1 .1 .0) (h .result .len) (h .ensures .0)
+    (h .last .1 .1 .1 .1 .1 .0) (now (s .args .out)) (c .before .before .before .before .before .before .before .run .result) _ _ _ (c .before .before .write .last .1 .0) (c .before .before .before .before .before .before .before .run .ensures) (omega (arith, s .pre .3)) (c .before .before .write .ensures .1)
+
+pub decide-spec : {M : Type 1} → statement M
+decide-spec =
+    tie.close
+    (tie.spec tables-requires hear-requires run-requires write-requires same-length returns)
