@@ -1,35 +1,34 @@
+-- `derive::next::both_known` meets its contract: by the tests of the two parts.
+use mathlib.Core.Path.{ap, _∙_}
 use borrow.Author.Needs.{needs}
+use Rattle.bitset.specs.Set.{member}
+use Rattle.bitset.specs.Words.{value}
+use Rattle.derive.specs.Search.{bothKnown}
+use Rattle.derive.proofs.Laws.Line.{part-test}
 use Rattle.derive.proofs.next.both_known.Statement.{statement}
 use Rattle.derive.proofs.next.both_known.Tie as tie
-use Rattle.derive.proofs.next.both_known.Reads as reads
-use Rattle.derive.proofs.next.both_known.Lts as lts
-use Rattle.bitset.proofs.member.Reads as member-reads
-use Rattle.canonical.proofs.left.Reads as left-reads
-use Rattle.canonical.proofs.right.Reads as right-reads
 
--- src/next.rt:65:30
 left-requires : tie.Need-left-requires
-left-requires c κs = ?
+left-requires c κs = search needs
 
--- src/next.rt:65:8
 member-requires : tie.Need-member-requires
-member-requires c κs = ?
+member-requires c κs = search needs
 
--- src/next.rt:66:38
 right-requires : tie.Need-right-requires
-right-requires c κs = ?
+right-requires c κs = search needs
 
--- src/next.rt:66:9
 member-requires-2 : tie.Need-member-requires-2
-member-requires-2 c κs = ?
+member-requires-2 c κs = search needs
 
--- src/next.rt:66:9
 returns : tie.Need-returns
-returns c = ?
+unfolding bothKnown
+returns c = let b = c .before .before in
+    let g = value (b .before .before .before .args .known) in
+    rw (part-test g (b .before .before .left .ensures) (b .before .member .ensures) (b .if1 .taken)) (c .member2 .ensures ∙ ap (member g) (c .before .right .ensures))
 
--- src/next.rt:62:1
 returns-2 : tie.Need-returns-2
-returns-2 c = ?
+unfolding bothKnown
+returns-2 c = rw (part-test (value (c .before .before .before .args .known)) (c .before .before .left .ensures) (c .before .member .ensures) (c .if1 .left))
 
 pub both-known-spec : {M : Type 1} → statement M
 both-known-spec =

@@ -1,60 +1,72 @@
+-- `derive::next::built` meets its contract: by the kind, by the tests of the two parts, and by the sum test.
+use mathlib.Core.Logic.{⊎-elim}
 use borrow.Author.Needs.{needs}
+use Rattle.bitset.specs.Words.{value}
+use Rattle.derive.proofs.Laws.Line.{NotBuilt, parts-unknown, kind-other, built-pair, built-enc, built-sum, built-none}
 use Rattle.derive.proofs.next.built.Statement.{statement}
 use Rattle.derive.proofs.next.built.Tie as tie
-use Rattle.derive.proofs.next.built.Reads as reads
-use Rattle.derive.proofs.next.built.Lts as lts
-use Rattle.canonical.proofs.kind.Reads as kind-reads
-use Rattle.canonical.proofs.left.Reads as left-reads
-use Rattle.derive.proofs.next.both_known.Reads as both-known-reads
-use Rattle.derive.proofs.next.number.Reads as number-reads
 
--- src/next.rt:75:9
+-- where neither arm returned
+no-pair : (c : tie.Joined1) → let k = c .before in let a = k .before .args in NotBuilt (value (a .known)) (a .key) (a .i) (k .kind .ensures) 2
+no-pair c = let k = c .before in
+    let a = k .before .args in
+    ⊎-elim (λ w. parts-unknown (value (a .known)) (a .key) (a .i) (k .kind .ensures) 2 (w .1 .ensures) (w .2 .left))
+    (λ w. kind-other (value (a .known)) (a .key) (a .i) (k .kind .ensures) 2 (w .left)) (c .if1 .came)
+
+no-enc : (c : tie.Joined3) → let k = c .before .before in let a = k .before .args in NotBuilt (value (a .known)) (a .key) (a .i) (k .kind .ensures) 3
+no-enc c = let k = c .before .before in
+    let a = k .before .args in
+    ⊎-elim (λ w. parts-unknown (value (a .known)) (a .key) (a .i) (k .kind .ensures) 3 (w .1 .ensures) (w .2 .left))
+    (λ w. kind-other (value (a .known)) (a .key) (a .i) (k .kind .ensures) 3 (w .left)) (c .if3 .came)
+
 kind-requires : tie.Need-kind-requires
-kind-requires c κs = ?
+kind-requires c κs = search needs
 
--- src/next.rt:77:12
 both-known-requires : tie.Need-both-known-requires
-both-known-requires c κs = ?
+both-known-requires c κs = search needs
 
--- src/next.rt:78:33
 left-requires : tie.Need-left-requires
-left-requires c κs = ?
+left-requires c κs = search needs
 
--- src/next.rt:78:13
 number-requires : tie.Need-number-requires
-number-requires c κs = ?
+number-requires c κs = search needs
 
--- src/next.rt:78:13
 returns : tie.Need-returns
-returns c = ?
+returns c = let b = c .before .before .before in
+    let k = b .before .before in
+    let a = k .before .args in
+    built-pair (value (a .known)) (a .key) (a .i) (k .kind .ensures) (a .summed) (b .before .if1 .taken) (b .both-known .ensures) (c .before .before .if2 .taken) (c .before .left .ensures) (c .number .ensures)
 
--- src/next.rt:82:12
 both-known-requires-2 : tie.Need-both-known-requires-2
-both-known-requires-2 c κs = ?
+both-known-requires-2 c κs = search needs
 
--- src/next.rt:83:33
 left-requires-2 : tie.Need-left-requires-2
-left-requires-2 c κs = ?
+left-requires-2 c κs = search needs
 
--- src/next.rt:83:13
 number-requires-2 : tie.Need-number-requires-2
-number-requires-2 c κs = ?
+number-requires-2 c κs = search needs
 
--- src/next.rt:83:13
 returns-2 : tie.Need-returns-2
-returns-2 c = ?
+returns-2 c = let b = c .before .before .before in
+    let j = b .before .before in
+    let k = j .before in
+    let a = k .before .args in
+    built-enc (value (a .known)) (a .key) (a .i) (k .kind .ensures) (a .summed) (no-pair j) (b .before .if3 .taken) (b .both-known2 .ensures) (c .before .before .if4 .taken) (c .before .left2 .ensures) (c .number2 .ensures)
 
--- src/next.rt:87:9
 number-requires-3 : tie.Need-number-requires-3
-number-requires-3 c κs = ?
+number-requires-3 c κs = search needs
 
--- src/next.rt:87:9
 returns-3 : tie.Need-returns-3
-returns-3 c = ?
+returns-3 c = let j = c .before .before in
+    let k = j .before .before in
+    let a = k .before .args in
+    built-sum (value (a .known)) (a .key) (a .i) (k .kind .ensures) (a .summed) (no-pair (j .before)) (no-enc j) (c .before .if5 .taken) (c .number3 .ensures)
 
--- src/next.rt:72:1
 returns-4 : tie.Need-returns-4
-returns-4 c = ?
+returns-4 c = let j = c .before in
+    let k = j .before .before in
+    let a = k .before .args in
+    built-none (value (a .known)) (a .key) (a .i) (k .kind .ensures) (a .summed) (no-pair (j .before)) (no-enc j) (c .if5 .left)
 
 pub built-spec : {M : Type 1} → statement M
 built-spec =

@@ -1,76 +1,76 @@
+-- `derive::next::next` meets its contract. The loop's invariant: the least number of the lines so far.
+use mathlib.Core.Path.{_≡_, refl, ap, _∙_}
+use mathlib.Core.Logic.{⊎-elim}
+use Prim.Native.Nat.{ℕ, _+_, _-_, _≤_}
+use native.Mathlib.Omega.{arith}
+use borrow.Author.Needs.{needs}
+use denote.Ref.{now}
+use Rattle.bitset.specs.Words.{value}
+use Rattle.derive.specs.Search.{searchLeast}
+use Rattle.derive.proofs.Laws.Line.{search-line, search-skip}
 use Rattle.derive.proofs.next.next.Statement.{statement}
 use Rattle.derive.proofs.next.next.Tie as tie
-use Rattle.derive.proofs.next.next.Reads as reads
-use Rattle.derive.proofs.next.next.Lts as lts
-use Rattle.bitset.proofs.is_empty.Reads as is-empty-reads
-use Rattle.derive.proofs.next.least.Reads as least-reads
-use Rattle.derive.proofs.next.offered_by.Reads as offered-by-reads
 
 abbrev Inv-loop : tie.InvT-loop
-Inv-loop keys reps n known remainders best₀ i₀ best i = ?
+Inv-loop keys reps n known remainders best₀ i₀ best i =
+    (i ≤ n) × (n ≤ 256) × (best ≡ searchLeast (value known) keys reps remainders i)
 
 abbrev μ-loop : tie.MeasureT-loop
-μ-loop keys reps n known remainders best₀ i₀ best i = ?
+μ-loop keys reps n known remainders best₀ i₀ best i =
+    n - i
 
--- src/next.rt:109:5
 loop-holds : tie.Need-loop-holds Inv-loop μ-loop
-loop-holds c = ?
+unfolding searchLeast
+loop-holds c = (search needs, search needs, refl)
 
--- src/next.rt:110:13
+cast-e : tie.Need-cast-e Inv-loop μ-loop
+cast-e c = search needs
+
 element-copy-out-if1 : tie.Need-element-copy-out-if1 Inv-loop μ-loop
-element-copy-out-if1 c = ?
+element-copy-out-if1 c = search needs
 
--- src/next.rt:110:13
-cast-if1 : tie.Need-cast-if1 Inv-loop μ-loop
-cast-if1 c = ?
-
--- src/next.rt:111:39
 mul-offered-by : tie.Need-mul-offered-by Inv-loop μ-loop
-mul-offered-by c = ?
+mul-offered-by c = search needs
 
--- src/next.rt:111:39
 element-copy-out-offered-by : tie.Need-element-copy-out-offered-by Inv-loop μ-loop
-element-copy-out-offered-by c = ?
+element-copy-out-offered-by c = search needs
 
--- src/next.rt:111:48
-cast-offered-by : tie.Need-cast-offered-by Inv-loop μ-loop
-cast-offered-by c = ?
-
--- src/next.rt:111:74
 mul-is-empty : tie.Need-mul-is-empty Inv-loop μ-loop
-mul-is-empty c = ?
+mul-is-empty c = search needs
 
--- src/next.rt:111:74
 element-copy-out-is-empty : tie.Need-element-copy-out-is-empty Inv-loop μ-loop
-element-copy-out-is-empty c = ?
+element-copy-out-is-empty c = search needs
 
--- src/next.rt:111:57
 is-empty-requires : tie.Need-is-empty-requires Inv-loop μ-loop
-is-empty-requires c κs = ?
+is-empty-requires c κs = search needs
 
--- src/next.rt:111:17
 offered-by-requires : tie.Need-offered-by-requires Inv-loop μ-loop
-offered-by-requires c κs = ?
+offered-by-requires c κs = search needs
 
--- src/next.rt:112:17
 least-requires : tie.Need-least-requires Inv-loop μ-loop
-least-requires c κs = ?
+least-requires c κs = search needs
 
--- src/next.rt:115:9
 add-i : tie.Need-add-i Inv-loop μ-loop
-add-i c = ?
+add-i c = search needs
 
--- src/next.rt:109:5
 loop-less : tie.Need-loop-less Inv-loop μ-loop
-loop-less c = ?
+loop-less c = search needs
 
--- src/next.rt:109:5
 loop-again : tie.Need-loop-again Inv-loop μ-loop
-loop-again c = ?
+loop-again c = let b = c .before .before .before in
+    let a = b .before .args in
+    let l = b .loop in
+    let g = value (a .known) in (
+      omega arith,
+      l .inv .1,
+      ⊎-elim (λ w. w .6 ∙ search-line g (now (a .keys)) (now (a .reps)) (now (a .remainders)) (l .i) (l .inv .2) (w .0 .taken) (w .3 .ensures) (w .4 .ensures) (w .5 .ensures))
+          (λ w. w .1 ∙ search-skip g (now (a .keys)) (now (a .reps)) (now (a .remainders)) (l .i) (l .inv .2) (w .0 .left)) (c .if1 .came),
+    )
 
--- src/next.rt:103:1
 returns : tie.Need-returns Inv-loop μ-loop
-returns c = ?
+returns c = let a = c .before .before .args in
+    let l = c .before .loop in
+    l .inv .2 ∙ ap (searchLeast (value (a .known)) (now (a .keys)) (now (a .reps)) (now (a .remainders))) (omega arith)
 
 pub next-spec : {M : Type 1} → statement M
 next-spec =
@@ -79,11 +79,10 @@ next-spec =
     Inv-loop
     μ-loop
     loop-holds
+    cast-e
     element-copy-out-if1
-    cast-if1
     mul-offered-by
     element-copy-out-offered-by
-    cast-offered-by
     mul-is-empty
     element-copy-out-is-empty
     is-empty-requires

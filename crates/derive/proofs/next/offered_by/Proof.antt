@@ -1,31 +1,26 @@
+-- `derive::next::offered_by` meets its contract: by the test whether the entry is known.
+use mathlib.Core.Path.{sym, _∙_}
 use borrow.Author.Needs.{needs}
+use Rattle.derive.specs.Search.{lineLeast}
 use Rattle.derive.proofs.next.offered_by.Statement.{statement}
 use Rattle.derive.proofs.next.offered_by.Tie as tie
-use Rattle.derive.proofs.next.offered_by.Reads as reads
-use Rattle.derive.proofs.next.offered_by.Lts as lts
-use Rattle.bitset.proofs.member.Reads as member-reads
-use Rattle.derive.proofs.next.built.Reads as built-reads
-use Rattle.derive.proofs.next.opened.Reads as opened-reads
 
--- src/next.rt:96:8
 member-requires : tie.Need-member-requires
-member-requires c κs = ?
+member-requires c κs = search needs
 
--- src/next.rt:97:9
 opened-requires : tie.Need-opened-requires
-opened-requires c κs = ?
+opened-requires c κs = search needs
 
--- src/next.rt:97:9
 returns : tie.Need-returns
-returns c = ?
+unfolding lineLeast
+returns c = rw (sym (c .before .before .member .ensures) ∙ c .before .if1 .taken) (c .opened .ensures)
 
--- src/next.rt:99:5
 built-requires : tie.Need-built-requires
-built-requires c κs = ?
+built-requires c κs = search needs
 
--- src/next.rt:93:1
 returns-2 : tie.Need-returns-2
-returns-2 c = ?
+unfolding lineLeast
+returns-2 c = rw (sym (c .before .before .member .ensures) ∙ c .before .if1 .left) (c .built .ensures)
 
 pub offered-by-spec : {M : Type 1} → statement M
 offered-by-spec =

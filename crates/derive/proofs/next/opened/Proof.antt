@@ -1,70 +1,63 @@
+-- `derive::next::opened` meets its contract: by the kind, and for an encryption by the test of its key.
 use borrow.Author.Needs.{needs}
+use Rattle.bitset.specs.Words.{value}
+use Rattle.derive.proofs.Laws.Line.{part-test, opened-pair, opened-enc, opened-shut, opened-none}
 use Rattle.derive.proofs.next.opened.Statement.{statement}
 use Rattle.derive.proofs.next.opened.Tie as tie
-use Rattle.derive.proofs.next.opened.Reads as reads
-use Rattle.derive.proofs.next.opened.Lts as lts
-use Rattle.bitset.proofs.member.Reads as member-reads
-use Rattle.canonical.proofs.kind.Reads as kind-reads
-use Rattle.canonical.proofs.left.Reads as left-reads
-use Rattle.canonical.proofs.right.Reads as right-reads
-use Rattle.derive.proofs.next.least.Reads as least-reads
-use Rattle.derive.proofs.next.offer.Reads as offer-reads
 
--- src/next.rt:49:9
 kind-requires : tie.Need-kind-requires
-kind-requires c κs = ?
+kind-requires c κs = search needs
 
--- src/next.rt:51:35
 left-requires : tie.Need-left-requires
-left-requires c κs = ?
+left-requires c κs = search needs
 
--- src/next.rt:51:22
 offer-requires : tie.Need-offer-requires
-offer-requires c κs = ?
+offer-requires c κs = search needs
 
--- src/next.rt:51:77
 right-requires : tie.Need-right-requires
-right-requires c κs = ?
+right-requires c κs = search needs
 
--- src/next.rt:51:64
 offer-requires-2 : tie.Need-offer-requires-2
-offer-requires-2 c κs = ?
+offer-requires-2 c κs = search needs
 
--- src/next.rt:51:9
 least-requires : tie.Need-least-requires
-least-requires c κs = ?
+least-requires c κs = search needs
 
--- src/next.rt:51:9
 returns : tie.Need-returns
-returns c = ?
+returns c = let b = c .before .before .before .before .before in
+    let s = b .before .before in
+    let a = s .args in
+    opened-pair (value (a .known)) (a .key) (a .i) (b .before .kind .ensures) (b .if1 .taken) (c .before .before .before .before .left .ensures) (c .before .before .before .offer .ensures) (c .before .before .right .ensures) (c .before .offer2 .ensures) (c .least .ensures)
 
--- src/next.rt:54:34
 right-requires-2 : tie.Need-right-requires-2
-right-requires-2 c κs = ?
+right-requires-2 c κs = search needs
 
--- src/next.rt:54:12
 member-requires : tie.Need-member-requires
-member-requires c κs = ?
+member-requires c κs = search needs
 
--- src/next.rt:55:33
 left-requires-2 : tie.Need-left-requires-2
-left-requires-2 c κs = ?
+left-requires-2 c κs = search needs
 
--- src/next.rt:55:13
 offer-requires-3 : tie.Need-offer-requires-3
-offer-requires-3 c κs = ?
+offer-requires-3 c κs = search needs
 
--- src/next.rt:55:13
 returns-2 : tie.Need-returns-2
-returns-2 c = ?
+returns-2 c = let d = c .before .before .before .before .before in
+    let b = d .before in
+    let a = b .before .before .args in
+    let m = c .before .before in
+    opened-enc (value (a .known)) (a .key) (a .i) (b .before .kind .ensures) (b .if1 .left) (d .if2 .taken) (part-test (value (a .known)) (m .before .before .right2 .ensures) (m .before .member .ensures) (m .if3 .taken)) (c .before .left2 .ensures) (c .offer3 .ensures)
 
--- src/next.rt:46:1
 returns-3 : tie.Need-returns-3
-returns-3 c = ?
+returns-3 c = let d = c .before .before .before in
+    let b = d .before in
+    let a = b .before .before .args in
+    opened-shut (value (a .known)) (a .key) (a .i) (b .before .kind .ensures) (b .if1 .left) (d .if2 .taken) (part-test (value (a .known)) (c .before .before .right2 .ensures) (c .before .member .ensures) (c .if3 .left))
 
--- src/next.rt:46:1
 returns-4 : tie.Need-returns-4
-returns-4 c = ?
+returns-4 c = let b = c .before in
+    let a = b .before .before .args in
+    opened-none (value (a .known)) (a .key) (a .i) (b .before .kind .ensures) (b .if1 .left) (c .if2 .left)
 
 pub opened-spec : {M : Type 1} → statement M
 opened-spec =

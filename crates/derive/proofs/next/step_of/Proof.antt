@@ -1,111 +1,100 @@
+-- `derive::next::step_of` meets its contract: by the rule.
+use mathlib.Core.Path.{ap}
 use borrow.Author.Needs.{needs}
+use denote.Ref.{now}
+use Rattle.deduction.specs.Elimination.{Reduced}
+use Rattle.knowledge.specs.Rows.{rowsOf}
+use Rattle.derive.specs.Search.{stepIn}
+use Rattle.derive.proofs.Laws.Line.{step-projection, step-decrypt, step-built, step-sum}
 use Rattle.derive.proofs.next.step_of.Statement.{statement}
 use Rattle.derive.proofs.next.step_of.Tie as tie
-use Rattle.derive.proofs.next.step_of.Reads as reads
-use Rattle.derive.proofs.next.step_of.Lts as lts
-use Rattle.bitset.proofs.empty.Reads as empty-reads
-use Rattle.canonical.proofs.right.Reads as right-reads
-use Rattle.knowledge.proofs.reduce.Reads as reduce-reads
 
--- src/next.rt:125:16
 cast-head : tie.Need-cast-head
-cast-head c = ?
+cast-head c = search needs
 
--- src/next.rt:126:16
 cast-rule : tie.Need-cast-rule
-cast-rule c = ?
+cast-rule c = search needs
 
--- src/next.rt:127:17
 cast-first : tie.Need-cast-first
-cast-first c = ?
+cast-first c = search needs
 
--- src/next.rt:128:9
 empty-requires : tie.Need-empty-requires
-empty-requires c κs = ?
+empty-requires c κs = search needs
 
--- src/next.rt:130:42
 cast-t17 : tie.Need-cast-t17
-cast-t17 c = ?
+cast-t17 c = search needs
 
--- src/next.rt:130:9
 returns : tie.Need-returns
-returns c = ?
+unfolding stepIn
+returns c = let a = c .before .before .args in
+    step-projection (now (a .keys)) (now (a .sets)) (rowsOf (now (a .rows)) (a .len)) _ _ _ (c .if1 .taken) (c .before .empty .ensures)
 
--- src/next.rt:133:41
 cast-right : tie.Need-cast-right
-cast-right c = ?
+cast-right c = search needs
 
--- src/next.rt:133:36
 mul-right : tie.Need-mul-right
-mul-right c = ?
+mul-right c = search needs
 
--- src/next.rt:133:36
 element-copy-out-right : tie.Need-element-copy-out-right
-element-copy-out-right c = ?
+element-copy-out-right c = search needs
 
--- src/next.rt:133:13
 right-requires : tie.Need-right-requires
-right-requires c κs = ?
+right-requires c κs = search needs
 
--- src/next.rt:134:42
 cast-t23 : tie.Need-cast-t23
-cast-t23 c = ?
+cast-t23 c = search needs
 
--- src/next.rt:134:64
 cast-t24 : tie.Need-cast-t24
-cast-t24 c = ?
+cast-t24 c = search needs
 
--- src/next.rt:134:9
 returns-2 : tie.Need-returns-2
-returns-2 c = ?
+unfolding stepIn
+returns-2 c = let b = c .before .before .before in
+    let a = b .before .before .args in
+    step-decrypt (now (a .keys)) (now (a .sets)) (rowsOf (now (a .rows)) (a .len)) _ _ _ (c .before .before .if2 .taken) (c .right .ensures) (b .before .empty .ensures)
 
--- src/next.rt:137:43
 cast-right-2 : tie.Need-cast-right-2
-cast-right-2 c = ?
+cast-right-2 c = search needs
 
--- src/next.rt:137:38
 mul-right-2 : tie.Need-mul-right-2
-mul-right-2 c = ?
+mul-right-2 c = search needs
 
--- src/next.rt:137:38
 element-copy-out-right-2 : tie.Need-element-copy-out-right-2
-element-copy-out-right-2 c = ?
+element-copy-out-right-2 c = search needs
 
--- src/next.rt:137:13
 right-requires-2 : tie.Need-right-requires-2
-right-requires-2 c κs = ?
+right-requires-2 c κs = search needs
 
--- src/next.rt:138:42
 cast-t30 : tie.Need-cast-t30
-cast-t30 c = ?
+cast-t30 c = search needs
 
--- src/next.rt:138:64
 cast-t31 : tie.Need-cast-t31
-cast-t31 c = ?
+cast-t31 c = search needs
 
--- src/next.rt:138:9
 returns-3 : tie.Need-returns-3
-returns-3 c = ?
+unfolding stepIn
+returns-3 c = let d = c .before .before .before in
+    let b = d .before in
+    let a = b .before .before .args in
+    step-built (now (a .keys)) (now (a .sets)) (rowsOf (now (a .rows)) (a .len)) _ _ _ (b .if1 .left) (d .if2 .left) (c .before .before .if3 .taken) (c .right2 .ensures) (b .before .empty .ensures)
 
--- src/next.rt:140:53
 cast-reduce : tie.Need-cast-reduce
-cast-reduce c = ?
+cast-reduce c = search needs
 
--- src/next.rt:140:48
 mul-reduce : tie.Need-mul-reduce
-mul-reduce c = ?
+mul-reduce c = search needs
 
--- src/next.rt:140:48
 element-copy-out-reduce : tie.Need-element-copy-out-reduce
-element-copy-out-reduce c = ?
+element-copy-out-reduce c = search needs
 
--- src/next.rt:140:9
 reduce-requires : tie.Need-reduce-requires
-reduce-requires c κs = ?
+reduce-requires c κs = search needs
 
--- src/next.rt:121:1
 returns-4 : tie.Need-returns-4
-returns-4 c = ?
+unfolding stepIn
+returns-4 c = let d = c .before .before .before in
+    let a = d .before .before .before .before .args in
+    step-sum (now (a .keys)) (now (a .sets)) (rowsOf (now (a .rows)) (a .len)) _ _ _ (d .if3 .left) (ap (λ (x : Reduced). x .used) (c .before .reduce .ensures))
 
 pub step-of-spec : {M : Type 1} → statement M
 step-of-spec =

@@ -26,6 +26,7 @@ use Rattle.deduction.specs.Run as theory
 use Rattle.knowledge.specs.State.{stateOf}
 use Rattle.derive.specs.Machine.{machine}
 use Rattle.derive.specs.Search.{searchLeast, stepIn}
+use Rattle.derive.specs.Bytes.{stepBytes}
 use Rattle.knowledge.specs.Rows.{rowsOf, SameOutside, Remainders}
 use Rattle.knowledge.proofs.Laws.Learn.{ones-words}
 use Rattle.derive.proofs.run.run.Statement.{statement}
@@ -181,7 +182,7 @@ loop-again c = let a = c .before .before .before .before .before .before .before
     (stepIn (now (s .args .keys)) (now (s .args .sets)) (rowsOf (a .loop .rows) (a .loop .used)) x)
     (sheet-step sh (s .pre .good) bytes (now (s .args .keys)) (now (s .args .sets)) (now (s .args .reps)) (s .pre .right) k x f some)
     (x / 65536 % 256) (value (getD (now (s .args .sets)) (x / 65536 % 256) [])) (hd .0) (s .pre .right .set (x / 65536 % 256) (hd .1))
-    _ _ _ _ _ (m .ensures .1 .0) (part-back (a .loop .out) (32 + 40 * a .loop .made) _ _ (m .ensures .0)) (m .ensures .1 .1 .0) (m .ensures .1 .1 .1 .0)
+    _ _ _ _ _ (m .ensures .1 .0) (part-back (a .loop .out) (32 + 40 * a .loop .made) (stepBytes (stepIn (now (s .args .keys)) (now (s .args .sets)) (rowsOf (a .loop .rows) (a .loop .used)) x)) (m .last .1 .1 .1 .1 .1 .1 .1 .1 .0) (m .ensures .0)) (m .ensures .1 .1 .0) (m .ensures .1 .1 .1 .0)
     (subst (λ (n : ℕ). (g : ℕ → ℕ) → Remainders g n (a .loop .rows) (a .loop .used) (a .loop .remainders) → Remainders g n (m .last .1 .1 .1 .1 .0) (m .result .len) (m .last .1 .1 .1 .1 .1 .1 .0)) (a .loop .inv .0) (m .ensures .1 .1 .1 .1 .0))
     (subst (λ (n : ℕ). SameOutside 0 n (a .loop .remainders) (m .last .1 .1 .1 .1 .1 .1 .0)) (a .loop .inv .0) (m .ensures .1 .1 .1 .1 .1)), rows-more (c .before .before .before))
 

@@ -1,36 +1,32 @@
+-- `derive::writer::put` meets its contract: two stores.
+use lib.ListN.{length-set}
+use native.Mathlib.Omega.{arith}
 use borrow.Author.Needs.{needs}
+use denote.Ref.{now}
+use Rattle.derive.proofs.Laws.Written.{two-stored}
 use Rattle.derive.proofs.writer.put.Statement.{statement}
 use Rattle.derive.proofs.writer.put.Tie as tie
-use Rattle.derive.proofs.writer.put.Reads as reads
-use Rattle.derive.proofs.writer.put.Lts as lts
 
--- src/writer.rt:15:15
 cast-out : tie.Need-cast-out
-cast-out c = ?
+cast-out c = search needs
 
--- src/writer.rt:15:5
 slice-write-out : tie.Need-slice-write-out
-slice-write-out c = ?
+slice-write-out c = search needs
 
--- src/writer.rt:16:19
 cast-out-2 : tie.Need-cast-out-2
-cast-out-2 c = ?
+cast-out-2 c = search needs
 
--- src/writer.rt:16:9
 add-out : tie.Need-add-out
-add-out c = ?
+add-out c = search needs
 
--- src/writer.rt:16:5
 slice-write-out-2 : tie.Need-slice-write-out-2
-slice-write-out-2 c = ?
+slice-write-out-2 c = simp length-set (omega arith)
 
--- src/writer.rt:11:1
 same-length : tie.Need-same-length
-same-length c = ?
+same-length c = simp length-set
 
--- src/writer.rt:11:1
 returns : tie.Need-returns
-returns c = ?
+returns c = two-stored (now (c .args .out)) (c .args .at) _ _ (search needs)
 
 pub put-spec : {M : Type 1} → statement M
 put-spec =

@@ -1,58 +1,51 @@
+-- `derive::writer::write_step` meets its contract: four numbers of two bytes, then the set.
 use borrow.Author.Needs.{needs}
+use denote.Ref.{now}
+use Rattle.derive.specs.Bytes.{stepOf}
+use Rattle.derive.proofs.Laws.Written.{step-written}
 use Rattle.derive.proofs.writer.write_step.Statement.{statement}
 use Rattle.derive.proofs.writer.write_step.Tie as tie
-use Rattle.derive.proofs.writer.write_step.Reads as reads
-use Rattle.derive.proofs.writer.write_step.Lts as lts
-use Rattle.bitset.proofs.write.Reads as write-reads
-use Rattle.derive.proofs.writer.put.Reads as put-reads
 
--- src/writer.rt:24:17
 cast-put : tie.Need-cast-put
-cast-put c = ?
+cast-put c = search needs
 
--- src/writer.rt:24:5
 put-requires : tie.Need-put-requires
-put-requires c κs = ?
+put-requires c κs = search needs
 
--- src/writer.rt:25:17
 cast-put-2 : tie.Need-cast-put-2
-cast-put-2 c = ?
+cast-put-2 c = search needs
 
--- src/writer.rt:25:5
 put-requires-2 : tie.Need-put-requires-2
-put-requires-2 c κs = ?
+put-requires-2 c κs = search needs
 
--- src/writer.rt:26:5
 put-requires-3 : tie.Need-put-requires-3
-put-requires-3 c κs = ?
+put-requires-3 c κs = search needs
 
--- src/writer.rt:27:5
 put-requires-4 : tie.Need-put-requires-4
-put-requires-4 c κs = ?
+put-requires-4 c κs = search needs
 
--- src/writer.rt:29:36
 sub-write : tie.Need-sub-write
-sub-write c = ?
+sub-write c = search needs
 
--- src/writer.rt:29:36
 part-write-start : tie.Need-part-write-start
-part-write-start c = ?
+part-write-start c = search needs
 
--- src/writer.rt:29:36
 part-write-end : tie.Need-part-write-end
-part-write-end c = ?
+part-write-end c = search needs
 
--- src/writer.rt:29:9
 write-requires : tie.Need-write-requires
-write-requires c κs = ?
+write-requires c κs = search needs
 
--- src/writer.rt:20:1
 same-length : tie.Need-same-length
-same-length c = ?
+same-length c = search needs
 
--- src/writer.rt:20:1
 returns : tie.Need-returns
-returns c = ?
+returns c = let p4 = c .before .before .before .before .before .before .before in
+    let p3 = p4 .before .before .before .before in
+    let p2 = p3 .before .before .before .before in
+    let p1 = p2 .before .before .before .before .before in
+    let s = p1 .before .before .before .before in
+    step-written (stepOf (s .args .step)) (now (s .args .out)) (s .pre) (p1 .put .ensures) (p2 .put2 .ensures) (p3 .put3 .ensures) (p4 .put4 .ensures) (c .before .before .write .ensures .1)
 
 pub write-step-spec : {M : Type 1} → statement M
 write-step-spec =

@@ -1,0 +1,129 @@
+-- What a line of the tables offers, by the outcome of the tests, and the search and the step of a number, case by case.
+-- Shown: the answer of each way through `opened`, `built` and `step_of`; a line more in the search. Assumes nothing.
+use mathlib.Core.Path.{_≡_, refl, sym, ap, ap₂, _∙_}
+use mathlib.Core.Bool.{Bool, true, false, cond, _&&_}
+use mathlib.Core.List.{List, []}
+use Prim.Native.Nat.{ℕ, zero, suc, _+_, _≤_, _<_, min}
+use native.Mathlib.Numerals.{add-one}
+use native.Mathlib.Omega.{arith}
+use lib.Dec.{eqb}
+use lib.ListN.{getD}
+use borrow.Author.Tests.{eq-eqb, ne-eqb}
+use Rattle.bitset.specs.Set.{member}
+use Rattle.bitset.specs.Words.{value}
+use Rattle.deduction.specs.Elimination.{Row, Reduced, reduce}
+use Rattle.deduction.specs.Step.{Step, step, unused}
+use Rattle.deduction.specs.Run.{number, noStep}
+use Rattle.canonical.specs.Key.{keyKind, keyLeft, keyRight}
+use Rattle.derive.specs.Search.{offered, openedLeast, bothKnown, builtLeast, lineLeast, searchLeast, lineStep}
+
+-- a member test of a part that was read off a key
+pub part-test : {l p : ℕ} {b t : Bool} (g : ℕ) → l ≡ p → b ≡ member g l → b ≡ t → member g p ≡ t
+part-test g q m r = ap (member g) (sym q) ∙ sym m ∙ r
+
+-- a line whose key has kind k
+module _ (g key i : ℕ) {k : ℕ} (said : k ≡ keyKind key) where
+  kind-is : (n : ℕ) → k ≡ n → eqb (keyKind key) n ≡ true
+  kind-is n p = eq-eqb (keyKind key) n (sym said ∙ p)
+
+  kind-not : (n : ℕ) → ¬ (k ≡ n) → eqb (keyKind key) n ≡ false
+  kind-not n f = ne-eqb (keyKind key) n (λ p. f (said ∙ p))
+
+  pub opened-pair : {l r a b x : ℕ} → k ≡ 2 → l ≡ keyLeft key → a ≡ offered g l 1 i → r ≡ keyRight key → b ≡ offered g r 2 i → x ≡ min a b → x ≡ openedLeast g key i
+  unfolding openedLeast
+  opened-pair p pl qa pr qb q =
+      rw (kind-is 2 p) (q ∙ ap₂ min (qa ∙ ap (λ (h : ℕ). offered g h 1 i) pl) (qb ∙ ap (λ (h : ℕ). offered g h 2 i) pr))
+
+  pub opened-enc : {l x : ℕ} → ¬ (k ≡ 2) → k ≡ 3 → member g (keyRight key) ≡ true → l ≡ keyLeft key → x ≡ offered g l 3 i → x ≡ openedLeast g key i
+  unfolding openedLeast
+  opened-enc f p m pl q = rw (kind-not 2 f, kind-is 3 p, m) (q ∙ ap (λ (h : ℕ). offered g h 3 i) pl)
+
+  pub opened-shut : ¬ (k ≡ 2) → k ≡ 3 → member g (keyRight key) ≡ false → noStep ≡ openedLeast g key i
+  unfolding openedLeast
+  opened-shut f p m = rw (kind-not 2 f, kind-is 3 p, m)
+
+  pub opened-none : ¬ (k ≡ 2) → ¬ (k ≡ 3) → noStep ≡ openedLeast g key i
+  unfolding openedLeast
+  opened-none f f′ = rw (kind-not 2 f, kind-not 3 f′)
+
+  -- entry i isn't built as one of kind n
+  abbrev pub NotBuilt : ℕ → Type 0
+  NotBuilt n = (eqb (keyKind key) n && bothKnown g key) ≡ false
+
+  pub parts-unknown : (n : ℕ) {b : Bool} → b ≡ bothKnown g key → b ≡ false → NotBuilt n
+  parts-unknown n q p = rw (sym q ∙ p) (go (eqb (keyKind key) n))
+    where
+      go : (t : Bool) → (t && false) ≡ false
+      go true = refl
+      go false = refl
+
+  pub kind-other : (n : ℕ) → ¬ (k ≡ n) → NotBuilt n
+  kind-other n f = rw (kind-not n f)
+
+  module _ (isSum : Bool) where
+    pub built-pair : {b : Bool} {l x : ℕ} → k ≡ 2 → b ≡ bothKnown g key → b ≡ true → l ≡ keyLeft key → x ≡ number i 4 l → x ≡ builtLeast g key i isSum
+    unfolding builtLeast
+    built-pair p qb t pl q = rw (kind-is 2 p, sym qb ∙ t) (q ∙ ap (number i 4) pl)
+
+    pub built-enc : {b : Bool} {l x : ℕ} → NotBuilt 2 → k ≡ 3 → b ≡ bothKnown g key → b ≡ true → l ≡ keyLeft key → x ≡ number i 5 l → x ≡ builtLeast g key i isSum
+    unfolding builtLeast
+    built-enc f p qb t pl q = rw (f, kind-is 3 p, sym qb ∙ t) (q ∙ ap (number i 5) pl)
+
+    pub built-sum : {x : ℕ} → NotBuilt 2 → NotBuilt 3 → isSum ≡ true → x ≡ number i 6 0 → x ≡ builtLeast g key i isSum
+    unfolding builtLeast
+    built-sum f f′ p q = rw (f, f′, p) q
+
+    pub built-none : NotBuilt 2 → NotBuilt 3 → isSum ≡ false → noStep ≡ builtLeast g key i isSum
+    unfolding builtLeast
+    built-none f f′ p = rw (f, f′, p)
+
+-- a line more in the search
+module _ (g : ℕ) (keys reps : List ℕ) (remainders : List (List ℕ)) where
+  pub search-le : (n : ℕ) → searchLeast g keys reps remainders n ≤ noStep
+  unfolding searchLeast
+  search-le zero = omega arith
+  search-le (suc n) = omega (arith, search-le n)
+
+  module _ (i : ℕ) {best : ℕ} (before : best ≡ searchLeast g keys reps remainders i) where
+    pub search-line : {isSum : Bool} {x b : ℕ} → getD reps i 0 ≡ i → isSum ≡ eqb (value (getD remainders i [])) 0 → x ≡ lineLeast g (getD keys i 0) i isSum
+        → b ≡ min best x → b ≡ searchLeast g keys reps remainders (i + 1)
+    unfolding searchLeast
+    search-line p s q r =
+        rw (add-one i, eq-eqb (getD reps i 0) i p) (r ∙ ap₂ min before (q ∙ ap (lineLeast g (getD keys i 0) i) s))
+
+    pub search-skip : ¬ (getD reps i 0 ≡ i) → best ≡ searchLeast g keys reps remainders (i + 1)
+    unfolding searchLeast
+    search-skip f = rw (add-one i, ne-eqb (getD reps i 0) i f) (omega (arith, search-le i))
+
+-- the step of a number, by its rule
+module _ (keys : List ℕ) (sets : List (List ℕ)) (rows : List Row) (h i : ℕ) where
+  pub step-projection : (r : ℕ) {u : ℕ} → r < 3 → u ≡ 0 → step h r i unused u ≡ lineStep keys sets rows h r i
+  unfolding lineStep
+  step-projection zero l q = ap (step h 0 i unused) q
+  step-projection (suc zero) l q = ap (step h 1 i unused) q
+  step-projection (suc (suc zero)) l q = ap (step h 2 i unused) q
+  step-projection (suc (suc (suc r))) l q = absurd (omega arith)
+
+  pub step-decrypt : (r : ℕ) {j u : ℕ} → r ≡ 3 → j ≡ keyRight (getD keys i 0) → u ≡ 0 → step h r i j u ≡ lineStep keys sets rows h r i
+  unfolding lineStep
+  step-decrypt r p pj q = rw p (ap₂ (step h 3 i) pj q)
+
+  pub step-built : (r : ℕ) {j u : ℕ} → 3 ≤ r → ¬ (r ≡ 3) → r < 6 → j ≡ keyRight (getD keys h 0) → u ≡ 0 → step h r i j u ≡ lineStep keys sets rows h r i
+  unfolding lineStep
+  step-built zero l f m pj q = absurd (omega arith)
+  step-built (suc zero) l f m pj q = absurd (omega arith)
+  step-built (suc (suc zero)) l f m pj q = absurd (omega arith)
+  step-built (suc (suc (suc zero))) l f m pj q = absurd (f refl)
+  step-built (suc (suc (suc (suc zero)))) l f m pj q = ap₂ (step h 4 i) pj q
+  step-built (suc (suc (suc (suc (suc zero))))) l f m pj q = ap₂ (step h 5 i) pj q
+  step-built (suc (suc (suc (suc (suc (suc r)))))) l f m pj q = absurd (omega arith)
+
+  pub step-sum : (r : ℕ) {u : ℕ} → 6 ≤ r → u ≡ reduce rows (value (getD sets h [])) .used → step h 6 unused unused u ≡ lineStep keys sets rows h r i
+  unfolding lineStep
+  step-sum zero l q = absurd (omega arith)
+  step-sum (suc zero) l q = absurd (omega arith)
+  step-sum (suc (suc zero)) l q = absurd (omega arith)
+  step-sum (suc (suc (suc zero))) l q = absurd (omega arith)
+  step-sum (suc (suc (suc (suc zero)))) l q = absurd (omega arith)
+  step-sum (suc (suc (suc (suc (suc zero))))) l q = absurd (omega arith)
+  step-sum (suc (suc (suc (suc (suc (suc r)))))) l q = ap (step h 6 unused unused) q

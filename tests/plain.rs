@@ -1,0 +1,200 @@
+// The verdict in plain Rust, by the library's algorithm: tables of keys, sets and representatives, a basis with kept remainders, and a least
+// number over all steps that follow. For the benchmark; the tests compare it with the library too.
+
+const NO_STEP: u32 = 1 << 24;
+
+type Set = [u64; 4];
+
+fn has(s: &Set, e: u8) -> bool {
+    s[(e / 64) as usize] >> (e % 64) & 1 == 1
+}
+
+fn add(a: &Set, b: &Set) -> Set {
+    [a[0] ^ b[0], a[1] ^ b[1], a[2] ^ b[2], a[3] ^ b[3]]
+}
+
+fn single(e: u8) -> Set {
+    let mut s = [0; 4];
+    s[(e / 64) as usize] = 1 << (e % 64);
+    s
+}
+
+fn leading(s: &Set) -> u8 {
+    for w in (0..4).rev() {
+        if s[w] != 0 {
+            return (64 * w as u32 + 63 - s[w].leading_zeros()) as u8;
+        }
+    }
+    0
+}
+
+struct Tables {
+    n: usize,
+    keys: [u64; 256],
+    sets: [Set; 256],
+    reps: [u8; 256],
+}
+
+fn tables(s: &[u8]) -> Tables {
+    let number = |i: usize| (s[i] as usize) * 256 + s[i + 1] as usize;
+    let n = number(4);
+    let mut t = Tables { n, keys: [0; 256], sets: [[0; 4]; 256], reps: [0; 256] };
+    for i in 0..n {
+        let (at, len) = (number(10 + 4 * i), number(12 + 4 * i));
+        let kind = s[at] as u64;
+        let key = match kind {
+            1 => (1 << 32) + number(at + 1) as u64,
+            2 | 3 => (kind << 32) + (t.reps[number(at + 1)] as u64) * 256 + t.reps[number(at + 3)] as u64,
+            _ => 0,
+        };
+        let (set, rep) = if key == 0 {
+            let mut set = [0; 4];
+            for p in (at + 1..at + len).step_by(2) {
+                set = add(&set, &t.sets[number(p)]);
+            }
+            (set, (0..i).find(|&j| t.sets[j] == set).unwrap_or(i))
+        } else {
+            match (0..i).find(|&j| t.keys[j] == key) {
+                Some(j) => (t.sets[j], j),
+                None => (single(i as u8), i),
+            }
+        };
+        t.keys[i] = key;
+        t.sets[i] = set;
+        t.reps[i] = rep as u8;
+    }
+    t
+}
+
+struct State {
+    known: Set,
+    vectors: [Set; 256],
+    uses: [Set; 256],
+    len: usize,
+    remainders: [Set; 256],
+}
+
+impl State {
+    fn reduce(&self, set: &Set) -> (Set, Set) {
+        let (mut v, mut used) = (*set, [0; 4]);
+        for i in 0..self.len {
+            if has(&v, leading(&self.vectors[i])) {
+                v = add(&v, &self.vectors[i]);
+                used = add(&used, &self.uses[i]);
+            }
+        }
+        (v, used)
+    }
+
+    fn gain(&mut self, n: usize, e: u8, set: &Set) {
+        if has(&self.known, e) {
+            return;
+        }
+        self.known = add(&self.known, &single(e));
+        let (v, used) = self.reduce(set);
+        if v == [0; 4] {
+            return;
+        }
+        self.vectors[self.len] = v;
+        self.uses[self.len] = add(&used, &single(e));
+        self.len += 1;
+        let pivot = leading(&v);
+        for r in &mut self.remainders[..n] {
+            if has(r, pivot) {
+                *r = add(r, &v);
+            }
+        }
+    }
+}
+
+fn number(head: u8, rule: u32, first: u8) -> u32 {
+    (head as u32) * 65536 + rule * 256 + first as u32
+}
+
+fn next(t: &Tables, s: &State) -> u32 {
+    let mut best = NO_STEP;
+    for i in 0..t.n {
+        if t.reps[i] as usize != i {
+            continue;
+        }
+        let (key, e) = (t.keys[i], i as u8);
+        let (kind, l, r) = (key >> 32, (key / 256 % 256) as u8, (key % 256) as u8);
+        let offer = |h: u8, rule: u32| if has(&s.known, h) { NO_STEP } else { number(h, rule, e) };
+        let x = if has(&s.known, e) {
+            match kind {
+                2 => offer(l, 1).min(offer(r, 2)),
+                3 if has(&s.known, r) => offer(l, 3),
+                _ => NO_STEP,
+            }
+        } else if kind == 2 && has(&s.known, l) && has(&s.known, r) {
+            number(e, 4, l)
+        } else if kind == 3 && has(&s.known, l) && has(&s.known, r) {
+            number(e, 5, l)
+        } else if s.remainders[i] == [0; 4] {
+            number(e, 6, 0)
+        } else {
+            NO_STEP
+        };
+        best = best.min(x);
+    }
+    best
+}
+
+fn put_set(out: &mut [u8], set: &Set) {
+    for (w, chunk) in set.iter().zip(out.chunks_exact_mut(8)) {
+        chunk.copy_from_slice(&w.to_le_bytes());
+    }
+}
+
+pub fn verdict(sheet: &[u8], cut: u32, budget: u32, out: &mut [u8]) -> u32 {
+    let refused = super::sheets::refusal(sheet);
+    if refused != 0 {
+        return refused;
+    }
+    let at = |i: usize| (sheet[i] as usize) * 256 + sheet[i + 1] as usize;
+    if cut as usize > at(6) {
+        return 8;
+    }
+    if budget > 256 {
+        return 9;
+    }
+    if out.len() < 32 + 40 * budget as usize {
+        return 10;
+    }
+    let t = tables(sheet);
+    let mut s = State { known: [0; 4], vectors: [[0; 4]; 256], uses: [[0; 4]; 256], len: 0, remainders: t.sets };
+    for k in 0..cut as usize {
+        let e = t.reps[at(10 + 4 * t.n + 2 * k)];
+        s.gain(t.n, e, &t.sets[e as usize]);
+    }
+    let goal = t.reps[at(8)];
+    let mut made = 0;
+    let verdict = loop {
+        if has(&s.known, goal) {
+            break 1000;
+        }
+        let x = next(&t, &s);
+        if x == NO_STEP {
+            break 2000;
+        }
+        if made == budget {
+            break 3000;
+        }
+        let (head, rule, first) = ((x >> 16) as u8, x >> 8 & 255, x as u8);
+        let (first, second, set) = match rule {
+            1 | 2 => (first as u16, 65535, [0; 4]),
+            3 => (first as u16, (t.keys[first as usize] % 256) as u16, [0; 4]),
+            4 | 5 => (first as u16, (t.keys[head as usize] % 256) as u16, [0; 4]),
+            _ => (65535, 65535, s.reduce(&t.sets[head as usize]).1),
+        };
+        let rung = &mut out[32 + 40 * made as usize..];
+        for (i, n) in [head as u16, rule as u16, first, second].iter().enumerate() {
+            rung[2 * i..2 * i + 2].copy_from_slice(&n.to_be_bytes());
+        }
+        put_set(&mut rung[8..40], &set);
+        s.gain(t.n, head, &t.sets[head as usize]);
+        made += 1;
+    };
+    put_set(&mut out[..32], &s.known);
+    verdict + made
+}
