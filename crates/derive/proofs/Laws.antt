@@ -1,7 +1,6 @@
 pub mod Machine
 pub mod Along
 pub mod Buffer
-pub mod Assumed
 pub mod Line
 pub mod Search
 pub mod Written

@@ -29,6 +29,6 @@ unfoldable pub machine : (ℕ → Entry) → ℕ → ℕ → ℕ → Knowledge �
 machine e n goal zero k = stopped e n goal k
 machine e n goal (suc b) k =
     elim (not (reached e goal k) && not (eqb (nextNumber e n k) noStep)) [
-      true ↦ follow (stepNext e n k) (machine e n goal b (learn (setAt e) k (stepNext e n k .head)))
-    | false ↦ stopped e n goal k
+      | true ↦ follow (stepNext e n k) (machine e n goal b (learn (setAt e) k (stepNext e n k .head)))
+      | false ↦ stopped e n goal k
     ]

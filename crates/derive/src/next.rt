@@ -9,7 +9,6 @@ ghost use Rattle.knowledge.specs.Rows.{rowsOf};
 ghost use Rattle.derive.specs.Bytes.{stepOf};
 ghost use Rattle.deduction.specs.Run.{number};
 ghost use Rattle.derive.specs.Search.{offered, openedLeast, bothKnown, builtLeast, lineLeast, searchLeast, stepIn};
-
 use crate::Step;
 
 // Above every step's number: nothing follows.
@@ -48,7 +47,10 @@ fn opened(known: [u64; 4], key: u64, i: u8) -> u32
 {
     let kind = canonical::kind(key);
     if kind == 2 {
-        return least(offer(known, canonical::left(key), 1, i), offer(known, canonical::right(key), 2, i));
+        return least(
+            offer(known, canonical::left(key), 1, i),
+            offer(known, canonical::right(key), 2, i),
+        );
     }
     if kind == 3 {
         if bitset::member(known, canonical::right(key)) {
@@ -100,15 +102,22 @@ fn offered_by(known: [u64; 4], key: u64, i: u8, summed: bool) -> u32
 }
 
 // The number of the next step over the first n lines of the tables, or NO_STEP.
-pub fn next(keys: &[u64; 256], reps: &[u8; 256], n: usize, known: [u64; 4], remainders: &[[u64; 4]; 256]) -> u32
+pub fn next(
+    keys: &[u64; 256],
+    reps: &[u8; 256],
+    n: usize,
+    known: [u64; 4],
+    remainders: &[[u64; 4]; 256],
+) -> u32
     requires { ⌜ n ≤ 256 ⌝ }
     ensures { λ r. ⌜ r ≡ searchLeast (value known) (now (keys .entry)) (now (reps .entry)) (now (remainders .entry)) n ⌝ }
 {
     let mut best = NO_STEP;
     let mut i: usize = 0;
     while i < n {
-        if (reps[i] as usize) == i {
-            let x = offered_by(known, keys[i], i as u8, bitset::is_empty(remainders[i]));
+        let e = i as u8;
+        if reps[i] == e {
+            let x = offered_by(known, keys[i], e, bitset::is_empty(remainders[i]));
             let b = least(best, x);
             best = b;
         }
@@ -118,7 +127,13 @@ pub fn next(keys: &[u64; 256], reps: &[u8; 256], n: usize, known: [u64; 4], rema
 }
 
 // The whole step of a number: its second source from the keys, and for a sum the set of learnt entries used.
-pub fn step_of(x: u32, keys: &[u64; 256], sets: &[[u64; 4]; 256], rows: &[u64; 2048], len: usize) -> Step
+pub fn step_of(
+    x: u32,
+    keys: &[u64; 256],
+    sets: &[[u64; 4]; 256],
+    rows: &[u64; 2048],
+    len: usize,
+) -> Step
     requires { ⌜ (length (now rows) ≡ 2048) × (len ≤ 256) ⌝ }
     ensures { λ r. ⌜ stepOf r ≡ stepIn (now (keys .entry)) (now (sets .entry)) (rowsOf (now (rows .entry)) len) x ⌝ }
 {
@@ -127,17 +142,41 @@ pub fn step_of(x: u32, keys: &[u64; 256], sets: &[[u64; 4]; 256], rows: &[u64; 2
     let first = (x % 256) as u8;
     let none = bitset::empty();
     if rule < 3 {
-        return Step { head, rule, first: first as u16, second: 65535, set: none };
+        return Step {
+            head,
+            rule,
+            first: first as u16,
+            second: 65535,
+            set: none,
+        };
     }
     if rule == 3 {
         let key = canonical::right(keys[first as usize]);
-        return Step { head, rule, first: first as u16, second: key as u16, set: none };
+        return Step {
+            head,
+            rule,
+            first: first as u16,
+            second: key as u16,
+            set: none,
+        };
     }
     if rule < 6 {
         let right = canonical::right(keys[head as usize]);
-        return Step { head, rule, first: first as u16, second: right as u16, set: none };
+        return Step {
+            head,
+            rule,
+            first: first as u16,
+            second: right as u16,
+            set: none,
+        };
     }
     let reduced = knowledge::reduce(rows, len, sets[head as usize]);
     let used = reduced.used;
-    Step { head, rule: 6, first: 65535, second: 65535, set: used }
+    Step {
+        head,
+        rule: 6,
+        first: 65535,
+        second: 65535,
+        set: used,
+    }
 }

@@ -10,11 +10,10 @@ ghost use Rattle.knowledge.specs.State.{stateOf, Room};
 ghost use Rattle.derive.specs.Bytes.{stepBytes};
 ghost use Rattle.derive.specs.Search.{stepIn};
 ghost use Rattle.derive.specs.Ran.{Ready, Ran};
-
 use crate::next;
 use crate::writer;
-use knowledge::Learnt;
 use dag::sheet;
+use knowledge::Learnt;
 
 // How a run ends.
 pub enum Verdict {
@@ -32,17 +31,23 @@ pub struct Ended {
 }
 
 // Makes the step of a number: writes it at the front of out and learns its head.
-fn make(x: u32, keys: &[u64; 256], sets: &[[u64; 4]; 256], known: [u64; 4], rows: &mut [u64; 2048], len: usize, remainders: &mut [[u64; 4]; 256], n: usize, out: &mut [u8]) -> Learnt
+fn make(
+    x: u32,
+    keys: &[u64; 256],
+    sets: &[[u64; 4]; 256],
+    known: [u64; 4],
+    rows: &mut [u64; 2048],
+    len: usize,
+    remainders: &mut [[u64; 4]; 256],
+    n: usize,
+    out: &mut [u8],
+) -> Learnt
     requires { ⌜ (length (now rows) ≡ 2048) × (length (now remainders) ≡ 256) × (n ≤ 256) × (len ≤ 256) × Room known len × (40 ≤ length (now out)) ⌝ }
     ensures bytes { λ _. ⌜ now (out .exit) ≡ stepBytes (stepIn (now (keys .entry)) (now (sets .entry)) (rowsOf (now (rows .entry)) len) x) ++ drop 40 (now (out .entry)) ⌝ }
-    ensures state {
-        λ r. ⌜ stateOf (r .known) (now (rows .exit)) (r .len) ≡ learnAs (stateOf known (now (rows .entry)) len) (x / 65536 % 256) (value (getD (now (sets .entry)) (x / 65536 % 256) [])) ⌝
-    }
+    ensures state { λ r. ⌜ stateOf (r .known) (now (rows .exit)) (r .len) ≡ learnAs (stateOf known (now (rows .entry)) len) (x / 65536 % 256) (value (getD (now (sets .entry)) (x / 65536 % 256) [])) ⌝ }
     ensures room { λ r. ⌜ Room (r .known) (r .len) ⌝ }
     ensures kept { λ r. ⌜ SameOutside (8 * len) (8 * r .len) (now (rows .entry)) (now (rows .exit)) ⌝ }
-    ensures tables {
-        λ r. ⌜ ((s : ℕ → ℕ) → Remainders s n (now (rows .entry)) len (now (remainders .entry)) → Remainders s n (now (rows .exit)) (r .len) (now (remainders .exit))) × SameOutside 0 n (now (remainders .entry)) (now (remainders .exit)) ⌝
-    }
+    ensures tables { λ r. ⌜ ((s : ℕ → ℕ) → Remainders s n (now (rows .entry)) len (now (remainders .entry)) → Remainders s n (now (rows .exit)) (r .len) (now (remainders .exit))) × SameOutside 0 n (now (remainders .entry)) (now (remainders .exit)) ⌝ }
 {
     let step = next::step_of(x, keys, sets, rows, len);
     writer::write_step(step, out);
@@ -51,11 +56,20 @@ fn make(x: u32, keys: &[u64; 256], sets: &[[u64; 4]; 256], known: [u64; 4], rows
 }
 
 // The run over a good sheet from a state, with its steps written from byte 32 of out on.
-pub fn run(s: &[u8], keys: &[u64; 256], sets: &[[u64; 4]; 256], reps: &[u8; 256], known: [u64; 4], rows: &mut [u64; 2048], len: usize, remainders: &mut [[u64; 4]; 256], budget: u16, out: &mut [u8]) -> Ended
+pub fn run(
+    s: &[u8],
+    keys: &[u64; 256],
+    sets: &[[u64; 4]; 256],
+    reps: &[u8; 256],
+    known: [u64; 4],
+    rows: &mut [u64; 2048],
+    len: usize,
+    remainders: &mut [[u64; 4]; 256],
+    budget: u16,
+    out: &mut [u8],
+) -> Ended
     requires { ⌜ Ready (now s) (now keys) (now sets) (now reps) known (now rows) len (now remainders) budget (now out) ⌝ }
-    ensures {
-        λ r. ⌜ Ran (now (s .entry)) known (now (rows .entry)) len (now (remainders .entry)) budget (now (out .entry)) r (now (rows .exit)) (now (remainders .exit)) (now (out .exit)) ⌝
-    }
+    ensures { λ r. ⌜ Ran (now (s .entry)) known (now (rows .entry)) len (now (remainders .entry)) budget (now (out .entry)) r (now (rows .exit)) (now (remainders .exit)) (now (out .exit)) ⌝ }
 {
     let n = sheet::count(s) as usize;
     let goal = reps[sheet::goal(s) as usize];
@@ -64,17 +78,42 @@ pub fn run(s: &[u8], keys: &[u64; 256], sets: &[[u64; 4]; 256], reps: &[u8; 256]
     let mut made: u16 = 0;
     loop {
         if bitset::member(have, goal) {
-            return Ended { verdict: Verdict::Derivable, made, known: have, len: used };
+            return Ended {
+                verdict: Verdict::Derivable,
+                made,
+                known: have,
+                len: used,
+            };
         }
         let x = next::next(keys, reps, n, have, remainders);
         if x == 16777216 {
-            return Ended { verdict: Verdict::Underivable, made, known: have, len: used };
+            return Ended {
+                verdict: Verdict::Underivable,
+                made,
+                known: have,
+                len: used,
+            };
         }
         if made == budget {
-            return Ended { verdict: Verdict::Exhausted, made, known: have, len: used };
+            return Ended {
+                verdict: Verdict::Exhausted,
+                made,
+                known: have,
+                len: used,
+            };
         }
         let from = 32 + 40 * (made as usize);
-        let learnt = make(x, keys, sets, have, rows, used, remainders, n, &mut out[from..]);
+        let learnt = make(
+            x,
+            keys,
+            sets,
+            have,
+            rows,
+            used,
+            remainders,
+            n,
+            &mut out[from..],
+        );
         let more = learnt.known;
         have = more;
         used = learnt.len;

@@ -4,7 +4,6 @@ ghost use mathlib.Core.List.{_++_};
 ghost use Prim.Native.Nat.{_+_, _≤_};
 ghost use lib.ListN.{length, take, drop};
 ghost use Rattle.derive.specs.Bytes.{two, stepBytes, stepOf};
-
 use crate::Step;
 
 // A number as two bytes at a place, high byte first.

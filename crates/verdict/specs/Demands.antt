@@ -70,4 +70,4 @@ pub record Meets (s : List ℕ) (cut budget : ℕ) (out : List ℕ) (answer : �
   -- "*stopped* if it isn't [gained], exactly b rungs were made and another follows"
   pub stopped : Stopped answer count
       → (count ≡ budget) × (¬ Holds (map (termAt (entryAt s)) (startHeads s cut ++ map (λ (r : Step). r .head) (stepsIn out count))) (goalTerm s))
-        × ((r : Step) × Follows (termAt (entryAt s)) (countOf s) (startHeads s cut ++ map (λ (r : Step). r .head) (stepsIn out count)) r)
+      × ((r : Step) × Follows (termAt (entryAt s)) (countOf s) (startHeads s cut ++ map (λ (r : Step). r .head) (stepsIn out count)) r)

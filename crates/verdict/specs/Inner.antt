@@ -31,4 +31,4 @@ pub record Decided (s : List ℕ) (cut budget : ℕ) (out out′ : List ℕ) (r 
   pub count : r .made ≡ length (outcomeOf s cut budget .steps)
   pub bytes : out′
       ≡ bytesOf 32 (knowledge (entryAt s) (outcomeOf s cut budget .learnt) .known)
-        ++ (stepsBytes (outcomeOf s cut budget .steps) ++ drop (32 + 40 * length (outcomeOf s cut budget .steps)) out)
+      ++ (stepsBytes (outcomeOf s cut budget .steps) ++ drop (32 + 40 * length (outcomeOf s cut budget .steps)) out)

@@ -19,12 +19,11 @@ ghost use Rattle.verdict.specs.Answer.{refusalOf, startOf, outcomeOf, an
 ghost use Rattle.verdict.specs.Demands.{Meets};
 ghost use Rattle.verdict.specs.Code.{numberOf};
 ghost use Rattle.verdict.specs.Inner.{Heard, Decided};
-
-use dag::sheet;
 use dag::Refusal;
-use knowledge::Learnt;
+use dag::sheet;
 use derive::run::Ended;
 use derive::run::Verdict;
+use knowledge::Learnt;
 
 // The answer: refused, or the verdict with the number of steps made (document 01: reached, out of reach, stopped).
 pub enum Answer {
@@ -35,7 +34,14 @@ pub enum Answer {
 }
 
 // Learns the heard messages before the cut, in order, each as its representative.
-fn hear(s: &[u8], cut: u16, sets: &[[u64; 4]; 256], reps: &[u8; 256], rows: &mut [u64; 2048], remainders: &mut [[u64; 4]; 256]) -> Learnt
+fn hear(
+    s: &[u8],
+    cut: u16,
+    sets: &[[u64; 4]; 256],
+    reps: &[u8; 256],
+    rows: &mut [u64; 2048],
+    remainders: &mut [[u64; 4]; 256],
+) -> Learnt
     requires { ⌜ Heard (now s) cut (now sets) (now reps) (now rows) (now remainders) ⌝ }
     ensures state { λ r. ⌜ stateOf (r .known) (now (rows .exit)) (r .len) ≡ knowledge (entryAt (now (s .entry))) (startOf (now (s .entry)) cut) ⌝ }
     ensures room { λ r. ⌜ Room (r .known) (r .len) ⌝ }
@@ -70,7 +76,18 @@ fn decide(s: &[u8], cut: u16, budget: u16, out: &mut [u8]) -> Ended
     let mut remainders = sets;
     let heard = hear(s, cut, &sets, &reps, &mut rows, &mut remainders);
     let known = heard.known;
-    let ended = derive::run::run(s, &keys, &sets, &reps, known, &mut rows, heard.len, &mut remainders, budget, out);
+    let ended = derive::run::run(
+        s,
+        &keys,
+        &sets,
+        &reps,
+        known,
+        &mut rows,
+        heard.len,
+        &mut remainders,
+        budget,
+        out,
+    );
     let gained = ended.known;
     let _fits = bitset::write(gained, out);
     ended
@@ -100,9 +117,7 @@ fn refused(sheet: &[u8], cut: u32, budget: u32, space: usize) -> Refusal
 pub fn verdict(sheet: &[u8], cut: u32, budget: u32, out: &mut [u8]) -> Answer
     ensures answer { λ r. ⌜ numberOf r ≡ answerOf (now (sheet .entry)) cut budget (length (now (out .entry))) ⌝ }
     ensures bytes { λ _. ⌜ now (out .exit) ≡ bufferOf (now (sheet .entry)) cut budget (now (out .entry)) ⌝ }
-    ensures demands {
-        λ r. ⌜ (refusalOf (now (sheet .entry)) cut budget (length (now (out .entry))) ≡ 0 → Meets (now (sheet .entry)) cut budget (now (out .exit)) (numberOf r)) ⌝
-    }
+    ensures demands { λ r. ⌜ (refusalOf (now (sheet .entry)) cut budget (length (now (out .entry))) ≡ 0 → Meets (now (sheet .entry)) cut budget (now (out .exit)) (numberOf r)) ⌝ }
 {
     let r = refused(sheet, cut, budget, out.len());
     if dag::code(r) != 0 {
@@ -135,9 +150,7 @@ fn number(a: Answer) -> u32
 pub extern "C" fn zuwendryk_verdict(sheet: &[u8], cut: u32, budget: u32, buffer: &mut [u8]) -> u32
     ensures answer { λ r. ⌜ r ≡ answerOf (now (sheet .entry)) cut budget (length (now (buffer .entry))) ⌝ }
     ensures bytes { λ _. ⌜ now (buffer .exit) ≡ bufferOf (now (sheet .entry)) cut budget (now (buffer .entry)) ⌝ }
-    ensures demands {
-        λ r. ⌜ (refusalOf (now (sheet .entry)) cut budget (length (now (buffer .entry))) ≡ 0 → Meets (now (sheet .entry)) cut budget (now (buffer .exit)) r) ⌝
-    }
+    ensures demands { λ r. ⌜ (refusalOf (now (sheet .entry)) cut budget (length (now (buffer .entry))) ≡ 0 → Meets (now (sheet .entry)) cut budget (now (buffer .exit)) r) ⌝ }
 {
     number(verdict(sheet, cut, budget, buffer))
 }

@@ -27,7 +27,7 @@ use Rattle.deduction.proofs.Steps.Numbers.{numberOf, number-head, numbe
 use Rattle.deduction.proofs.Steps.Drawn.{drawn-independent}
 
 -- an offer is an offer of one of the first m entries
-all-offers : (e : ℕ → Entry) (g : ℕ) (f : ℕ → Bool) (m : ℕ) {x : ℕ} → List·Memᴰ x (allOffers e g f m) → (i : ℕ) × (i < m) × List·Memᴰ x (offers e g f i)
+pub all-offers : (e : ℕ → Entry) (g : ℕ) (f : ℕ → Bool) (m : ℕ) {x : ℕ} → List·Memᴰ x (allOffers e g f m) → (i : ℕ) × (i < m) × List·Memᴰ x (offers e g f i)
 unfolding allOffers
 all-offers e g f zero o = absurd (List·Memᴰ·not-nil o)
 all-offers e g f (suc m) {x} o = go (List·Memᴰ·append-cases (allOffers e g f m) o) (λ q. all-offers e g f m q)
@@ -38,10 +38,10 @@ all-offers e g f (suc m) {x} o = go (List·Memᴰ·append-cases (allOffers e g f
     go (inr q) ih = (m, omega arith, q)
 
 -- a list that a test leaves empty
-only-if : (b : Bool) (xs : List ℕ) {x : ℕ} → List·Memᴰ x (cond b xs []) → (b ≡ true) × List·Memᴰ x xs
+pub only-if : (b : Bool) (xs : List ℕ) {x : ℕ} → List·Memᴰ x (cond b xs []) → (b ≡ true) × List·Memᴰ x xs
 only-if b xs m = elim (chosen b xs [] m) [ inl q ↦ q | inr q ↦ absurd (List·Memᴰ·not-nil (q .1)) ]
 
-only-unless : (b : Bool) (xs : List ℕ) {x : ℕ} → List·Memᴰ x (cond b [] xs) → (b ≡ false) × List·Memᴰ x xs
+pub only-unless : (b : Bool) (xs : List ℕ) {x : ℕ} → List·Memᴰ x (cond b [] xs) → (b ≡ false) × List·Memᴰ x xs
 only-unless b xs m = elim (chosen b [] xs m) [ inl q ↦ absurd (List·Memᴰ·not-nil (q .1)) | inr q ↦ q ]
 
 module _ (e : ℕ → Entry) (n : ℕ) (down : Downward e n) (small : n ≤ 256) {es : List ℕ} {k : Knowledge} (l : Learnt (setAt e) n es k) where

@@ -53,7 +53,7 @@ along-start s keys sets reps known rows len remainders budget out r =
       grown = le-refl len;
       kept = same-refl (8 * len) (8 * len) rows;
       cache = r .cache;
-      others = same-refl 0 (countOf s) remainders
+      others = same-refl 0 (countOf s) remainders;
     }
 
 module _ {s have₀ rows₀ : List ℕ} {used₀ : ℕ} {remainders₀ : List (List ℕ)} {budget : ℕ} {out₀ have rows : List ℕ} {used : ℕ} {remainders : List (List ℕ)} {made : ℕ} {out : List ℕ}
@@ -72,7 +72,7 @@ module _ {s have₀ rows₀ : List ℕ} {used₀ : ℕ} {remainders₀ : List (L
         room = a .room;
         kept = a .kept;
         cache = a .cache;
-        others = a .others
+        others = a .others;
       }
 
   -- a step is made
@@ -89,26 +89,26 @@ module _ {s have₀ rows₀ : List ℕ} {used₀ : ℕ} {remainders₀ : List (L
       let s₁ = stepNext (entryAt s) (countOf s) k in
       let same : theory.stepAt (entryAt s) k x ≡ s₁ = ap (theory.stepAt (entryAt s) k) next in
       let learnt : learn (setAt (entryAt s)) k (s₁ .head) ≡ stateOf have′ rows′ used′ =
-          ap (learn (setAt (entryAt s)) k) (sym (head ∙ ap (λ (r : Step). r .head) same)) ∙ ap (learnAs k h) (sym set) ∙ sym state in
+      ap (learn (setAt (entryAt s)) k) (sym (head ∙ ap (λ (r : Step). r .head) same)) ∙ ap (learnAs k h) (sym set) ∙ sym state in
       let up : used ≤ used′ = ⊎-elim (λ p. le-of-eq (sym p)) (λ p. omega (arith, p)) (learn-len have rows used h v have′ rows′ used′ state) in
       record {
         done = a .done ++ (s₁ ∷ []);
         many = length-append (a .done) (s₁ ∷ []) ∙ ap (λ (n : ℕ). n + 1) (a .many);
         within = omega arith;
         rest =
-          a .rest
-          ∙ ap (λ (b : ℕ). prepend (a .done) (machine (entryAt s) (countOf s) (goalOf s) b k)) left
-          ∙ ap (prepend (a .done)) (machine-step (entryAt s) (countOf s) (goalOf s) k (budget - (made + 1)) unmet (λ z. some (next ∙ z)))
-          ∙ sym (prepend-more (a .done) s₁ (machine (entryAt s) (countOf s) (goalOf s) (budget - (made + 1)) (learn (setAt (entryAt s)) k (s₁ .head))))
-          ∙ ap (λ (j : Knowledge). prepend (a .done ++ (s₁ ∷ [])) (machine (entryAt s) (countOf s) (goalOf s) (budget - (made + 1)) j)) learnt;
+            a .rest
+            ∙ ap (λ (b : ℕ). prepend (a .done) (machine (entryAt s) (countOf s) (goalOf s) b k)) left
+            ∙ ap (prepend (a .done)) (machine-step (entryAt s) (countOf s) (goalOf s) k (budget - (made + 1)) unmet (λ z. some (next ∙ z)))
+            ∙ sym (prepend-more (a .done) s₁ (machine (entryAt s) (countOf s) (goalOf s) (budget - (made + 1)) (learn (setAt (entryAt s)) k (s₁ .head))))
+            ∙ ap (λ (j : Knowledge). prepend (a .done ++ (s₁ ∷ [])) (machine (entryAt s) (countOf s) (goalOf s) (budget - (made + 1)) j)) learnt;
         bytes = written-more out₀ (a .done) made (a .many) space out out′ s₁ (a .bytes) (bytes ∙ ap (λ (r : Step). take (32 + 40 * made) out ++ (stepBytes r ++ drop 40 (drop (32 + 40 * made) out))) (step ∙ same));
         room = room;
         grown = le-trans (a .grown) up;
         kept =
-          same-trans (same-wider (8 * used₀) (8 * used′) (le-refl (8 * used₀)) (omega (arith, up)) (a .kept))
-          (same-wider (8 * used₀) (8 * used′) (omega (arith, a .grown)) (le-refl (8 * used′)) kept);
+            same-trans (same-wider (8 * used₀) (8 * used′) (le-refl (8 * used₀)) (omega (arith, up)) (a .kept))
+            (same-wider (8 * used₀) (8 * used′) (omega (arith, a .grown)) (le-refl (8 * used′)) kept);
         cache = cache (setAt (entryAt s)) (a .cache);
-        others = same-trans (a .others) others
+        others = same-trans (a .others) others;
       }
     where
       left : budget - made ≡ suc (budget - (made + 1))

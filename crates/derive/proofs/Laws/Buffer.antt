@@ -22,7 +22,7 @@ steps-length (s ∷ ss) =
     sum (length-append (stepBytes s) (stepsBytes ss)) (step-length s) (steps-length ss) (mul-suc 40 (length ss))
   where
     sum : length (stepBytes s ++ stepsBytes ss) ≡ length (stepBytes s) + length (stepsBytes ss) → length (stepBytes s) ≡ 40
-      → length (stepsBytes ss) ≡ 40 * length ss → 40 * suc (length ss) ≡ 40 * length ss + 40 → length (stepBytes s ++ stepsBytes ss) ≡ 40 * suc (length ss)
+        → length (stepsBytes ss) ≡ 40 * length ss → 40 * suc (length ss) ≡ 40 * length ss + 40 → length (stepBytes s ++ stepsBytes ss) ≡ 40 * suc (length ss)
     sum a b c d = omega arith
 
 pub steps-more : (ss : List Step) (s : Step) → stepsBytes (ss ++ (s ∷ [])) ≡ stepsBytes ss ++ stepBytes s
@@ -48,11 +48,11 @@ module _ (out₀ : List ℕ) (ss : List Step) (made : ℕ) (many : length ss ≡
   written-more out out′ s p q =
       q
       ∙ ap₂ (λ (a b : List ℕ). a ++ (stepBytes s ++ drop 40 b)) (ap (take (32 + 40 * made)) whole ∙ take-at front rest (32 + 40 * made) front-length)
-          (ap (drop (32 + 40 * made)) whole ∙ drop-at front rest (32 + 40 * made) front-length)
+      (ap (drop (32 + 40 * made)) whole ∙ drop-at front rest (32 + 40 * made) front-length)
       ∙ append-assoc (take 32 out₀) (stepsBytes ss) (stepBytes s ++ drop 40 rest)
       ∙ ap (λ (l : List ℕ). take 32 out₀ ++ l)
-          (sym (append-assoc (stepsBytes ss) (stepBytes s) (drop 40 rest))
-          ∙ ap₂ _++_ (sym (steps-more ss s)) (drop-drop 40 (32 + 40 * made) out₀ ∙ ap (λ (n : ℕ). drop n out₀) later))
+      (sym (append-assoc (stepsBytes ss) (stepBytes s) (drop 40 rest))
+      ∙ ap₂ _++_ (sym (steps-more ss s)) (drop-drop 40 (32 + 40 * made) out₀ ∙ ap (λ (n : ℕ). drop n out₀) later))
     where
       rest : List ℕ
       rest = drop (32 + 40 * made) out₀
@@ -89,5 +89,5 @@ module _ (out : List ℕ) (from : ℕ) where
       → take from out ++ (part ++ drop (length out - from) (drop from out)) ≡ take from out ++ (b ++ drop 40 (drop from out))
   part-back b part p =
       ap (λ (l : List ℕ). take from out ++ l)
-        (ap₂ _++_ (p ∙ ap (λ (l : List ℕ). b ++ drop 40 l) part-whole) (drop-of-length-le (drop from out) (le-of-eq (length-drop from out)))
-        ∙ append-nil (b ++ drop 40 (drop from out)))
+      (ap₂ _++_ (p ∙ ap (λ (l : List ℕ). b ++ drop 40 l) part-whole) (drop-of-length-le (drop from out) (le-of-eq (length-drop from out)))
+      ∙ append-nil (b ++ drop 40 (drop from out)))

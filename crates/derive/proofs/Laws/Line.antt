@@ -1,7 +1,7 @@
 -- What a line of the tables offers, by the outcome of the tests, and the search and the step of a number, case by case.
 -- Shown: the answer of each way through `opened`, `built` and `step_of`; a line more in the search. Assumes nothing.
 use mathlib.Core.Path.{_≡_, refl, sym, ap, ap₂, _∙_}
-use mathlib.Core.Bool.{Bool, true, false, cond, _&&_}
+use mathlib.Core.Bool.{Bool, true, false, _&&_}
 use mathlib.Core.List.{List, []}
 use Prim.Native.Nat.{ℕ, zero, suc, _+_, _≤_, _<_, min}
 use native.Mathlib.Numerals.{add-one}
@@ -11,8 +11,8 @@ use lib.ListN.{getD}
 use borrow.Author.Tests.{eq-eqb, ne-eqb}
 use Rattle.bitset.specs.Set.{member}
 use Rattle.bitset.specs.Words.{value}
-use Rattle.deduction.specs.Elimination.{Row, Reduced, reduce}
-use Rattle.deduction.specs.Step.{Step, step, unused}
+use Rattle.deduction.specs.Elimination.{Row, reduce}
+use Rattle.deduction.specs.Step.{step, unused}
 use Rattle.deduction.specs.Run.{number, noStep}
 use Rattle.canonical.specs.Key.{keyKind, keyLeft, keyRight}
 use Rattle.derive.specs.Search.{offered, openedLeast, bothKnown, builtLeast, lineLeast, searchLeast, lineStep}
@@ -20,6 +20,10 @@ use Rattle.derive.specs.Search.{offered, openedLeast, bothKnown, builtLe
 -- a member test of a part that was read off a key
 pub part-test : {l p : ℕ} {b t : Bool} (g : ℕ) → l ≡ p → b ≡ member g l → b ≡ t → member g p ≡ t
 part-test g q m r = ap (member g) (sym q) ∙ sym m ∙ r
+
+-- an entry with this key isn't built as one of kind n
+abbrev pub NotBuilt : ℕ → ℕ → ℕ → Type 0
+NotBuilt g key n = (eqb (keyKind key) n && bothKnown g key) ≡ false
 
 -- a line whose key has kind k
 module _ (g key i : ℕ) {k : ℕ} (said : k ≡ keyKind key) where
@@ -46,18 +50,14 @@ module _ (g key i : ℕ) {k : ℕ} (said : k ≡ keyKind key) where
   unfolding openedLeast
   opened-none f f′ = rw (kind-not 2 f, kind-not 3 f′)
 
-  -- entry i isn't built as one of kind n
-  abbrev pub NotBuilt : ℕ → Type 0
-  NotBuilt n = (eqb (keyKind key) n && bothKnown g key) ≡ false
-
-  pub parts-unknown : (n : ℕ) {b : Bool} → b ≡ bothKnown g key → b ≡ false → NotBuilt n
+  pub parts-unknown : (n : ℕ) {b : Bool} → b ≡ bothKnown g key → b ≡ false → NotBuilt g key n
   parts-unknown n q p = rw (sym q ∙ p) (go (eqb (keyKind key) n))
     where
       go : (t : Bool) → (t && false) ≡ false
       go true = refl
       go false = refl
 
-  pub kind-other : (n : ℕ) → ¬ (k ≡ n) → NotBuilt n
+  pub kind-other : (n : ℕ) → ¬ (k ≡ n) → NotBuilt g key n
   kind-other n f = rw (kind-not n f)
 
   module _ (isSum : Bool) where
@@ -65,15 +65,15 @@ module _ (g key i : ℕ) {k : ℕ} (said : k ≡ keyKind key) where
     unfolding builtLeast
     built-pair p qb t pl q = rw (kind-is 2 p, sym qb ∙ t) (q ∙ ap (number i 4) pl)
 
-    pub built-enc : {b : Bool} {l x : ℕ} → NotBuilt 2 → k ≡ 3 → b ≡ bothKnown g key → b ≡ true → l ≡ keyLeft key → x ≡ number i 5 l → x ≡ builtLeast g key i isSum
+    pub built-enc : {b : Bool} {l x : ℕ} → NotBuilt g key 2 → k ≡ 3 → b ≡ bothKnown g key → b ≡ true → l ≡ keyLeft key → x ≡ number i 5 l → x ≡ builtLeast g key i isSum
     unfolding builtLeast
     built-enc f p qb t pl q = rw (f, kind-is 3 p, sym qb ∙ t) (q ∙ ap (number i 5) pl)
 
-    pub built-sum : {x : ℕ} → NotBuilt 2 → NotBuilt 3 → isSum ≡ true → x ≡ number i 6 0 → x ≡ builtLeast g key i isSum
+    pub built-sum : {x : ℕ} → NotBuilt g key 2 → NotBuilt g key 3 → isSum ≡ true → x ≡ number i 6 0 → x ≡ builtLeast g key i isSum
     unfolding builtLeast
     built-sum f f′ p q = rw (f, f′, p) q
 
-    pub built-none : NotBuilt 2 → NotBuilt 3 → isSum ≡ false → noStep ≡ builtLeast g key i isSum
+    pub built-none : NotBuilt g key 2 → NotBuilt g key 3 → isSum ≡ false → noStep ≡ builtLeast g key i isSum
     unfolding builtLeast
     built-none f f′ p = rw (f, f′, p)
 

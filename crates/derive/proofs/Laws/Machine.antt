@@ -55,7 +55,7 @@ module _ (e : ℕ → Entry) (n goal : ℕ) (k : Knowledge) where
   machine-stop (suc b) p = go goes p
     where
       go : (t : Bool) → t ≡ false
-        → elim t as (λ (x : Bool). Ended) [ true ↦ follow (stepNext e n k) (machine e n goal b (learn (setAt e) k (stepNext e n k .head))) | false ↦ stopped e n goal k ]
+          → elim t as (λ (x : Bool). Ended) [ true ↦ follow (stepNext e n k) (machine e n goal b (learn (setAt e) k (stepNext e n k .head))) | false ↦ stopped e n goal k ]
           ≡ stopped e n goal k
       go true q = absurd (mathlib.Core.Bool.true≢false q)
       go false q = refl
@@ -84,7 +84,7 @@ module _ (e : ℕ → Entry) (n goal : ℕ) (k : Knowledge) where
   machine-step b p q = go goes (ap₂ (λ (t u : Bool). not t && not u) p (ne-eqb (nextNumber e n k) noStep q))
     where
       go : (t : Bool) → t ≡ true
-        → elim t as (λ (x : Bool). Ended) [ true ↦ follow (stepNext e n k) (machine e n goal b (learn (setAt e) k (stepNext e n k .head))) | false ↦ stopped e n goal k ]
+          → elim t as (λ (x : Bool). Ended) [ true ↦ follow (stepNext e n k) (machine e n goal b (learn (setAt e) k (stepNext e n k .head))) | false ↦ stopped e n goal k ]
           ≡ follow (stepNext e n k) (machine e n goal b (learn (setAt e) k (stepNext e n k .head)))
       go true q = refl
       go false q = absurd (mathlib.Core.Bool.false≢true q)
@@ -103,9 +103,9 @@ machine-run e n goal (suc b) es = go (goesOn e n goal es) (machine-run e n goal 
     more = sym (learnAll-more (setAt e) nothing es (nextStep e n es .head))
 
     go : (t : Bool) → machine e n goal b (knowledge e (es ++ (nextStep e n es .head ∷ []))) ≡ asEnded e (run e n goal b (es ++ (nextStep e n es .head ∷ [])))
-      → elim t as (λ (x : Bool). Ended) [
-          true ↦ follow (stepNext e n (knowledge e es)) (machine e n goal b (learn (setAt e) (knowledge e es) (stepNext e n (knowledge e es) .head)))
-        | false ↦ stopped e n goal (knowledge e es)
+        → elim t as (λ (x : Bool). Ended) [
+          | true ↦ follow (stepNext e n (knowledge e es)) (machine e n goal b (learn (setAt e) (knowledge e es) (stepNext e n (knowledge e es) .head)))
+          | false ↦ stopped e n goal (knowledge e es)
         ]
         ≡ asEnded e (elim t as (λ (x : Bool). Outcome) [ true ↦ after (nextStep e n es) (run e n goal b (es ++ (nextStep e n es .head ∷ []))) | false ↦ ended e n goal es ])
     go true ih = ap (follow (nextStep e n es)) (ap (machine e n goal b) more ∙ ih)

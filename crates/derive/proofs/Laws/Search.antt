@@ -6,7 +6,7 @@ use mathlib.Core.Path.{_≡_, refl, sym, ap, ap₂, _∙_, subst}
 use mathlib.Core.Bool.{Bool, true, false, cond, _&&_}
 use mathlib.Core.Logic.{_⊎_, inl, inr}
 use mathlib.Core.List.{List, [], _∷_, _++_, List·Memᴰ, List·Memᴰ·head, List·Memᴰ·tail, List·Memᴰ·not-nil, List·Memᴰ·append-cases, List·Memᴰ·eq-of-singleton, Memᴰ·cast}
-use Prim.Native.Nat.{ℕ, zero, suc, _+_, _*_, _/_, _%_, _^_, _≤_, _<_, min}
+use Prim.Native.Nat.{ℕ, zero, suc, _/_, _%_, _^_, _≤_, _<_, min}
 use native.Mathlib.Omega.{arith}
 use lib.Dec.{eqb}
 use lib.ListN.{getD}
@@ -15,7 +15,7 @@ use Rattle.bitset.specs.Words.{value}
 use Rattle.deduction.specs.Entry.{Entry, Zero, Atom, Pair, Enc, Sum, parts, Downward}
 use Rattle.deduction.specs.Standard.{setAt, repAt}
 use Rattle.deduction.specs.Elimination.{Knowledge, reduce}
-use Rattle.deduction.specs.Step.{Step, step, unused}
+use Rattle.deduction.specs.Step.{step, unused}
 use Rattle.deduction.specs.Run.{number, noStep, offer, opened, built, offers, allOffers, leastOf, isSumOf, nextNumber, secondPart, expand, stepAt}
 use Rattle.deduction.proofs.Standard.{rep-le}
 use Rattle.deduction.proofs.Steps.Numbers.{number-head, number-rule, number-first, number-below, least-one, chosen}
@@ -142,7 +142,8 @@ module _ (e : ℕ → Entry) (n : ℕ) (down : Downward e n) (few : n ≤ 256) (
   unfolding searchLeast allOffers leastOf
   search-upto g remainders zero l = refl
   search-upto g remainders (suc m) l =
-      ap₂ min (search-upto g remainders m (omega arith)) (line-same g (nothing-left remainders) m (omega arith)) ∙ sym (least-append noStep (allOffers e g (nothing-left remainders) m) (offers e g (nothing-left remainders) m))
+      ap₂ min (search-upto g remainders m (omega arith)) (line-same g (nothing-left remainders) m (omega arith))
+      ∙ sym (least-append noStep (allOffers e g (nothing-left remainders) m) (offers e g (nothing-left remainders) m))
 
   pub search-same : (g : ℕ) (remainders : List (List ℕ)) → searchLeast g keys reps remainders n ≡ leastOf noStep (allOffers e g (nothing-left remainders) n)
   search-same g remainders = search-upto g remainders n (omega arith)

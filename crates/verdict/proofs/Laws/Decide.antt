@@ -37,17 +37,17 @@ module _ (s : List ℕ) (cut budget : ℕ) (known rows : List ℕ) (len : ℕ) (
       let count : r .made ≡ length (outcomeOf s cut budget .steps) = ran .count ∙ ap length steps in
       let rest = stepsBytes (endOf s budget known rows len .steps) ++ drop (32 + 40 * r .made) out in
       let wide : 32 ≤ length out′ =
-          le-trans (le-of-eq (sym (length-take-le 32 out space))) (long (take 32 out) rest out′ (ran .bytes)) in
+      le-trans (le-of-eq (sym (length-take-le 32 out space))) (long (take 32 out) rest out′ (ran .bytes)) in
       record {
         verdict = ran .verdict ∙ ap (λ (o : Ended). o .verdict) ends;
         count = count;
         bytes =
-          written
-          ∙ when-le 32 (length out′) (bytesOf 32 (value (r .known)) ++ drop 32 out′) out′ wide
-          ∙ ap₂ (λ (a : ℕ) (b : List ℕ). bytesOf 32 a ++ b)
-              (ap (λ (k : Knowledge). k .known) (ran .state) ∙ ap (λ (o : Ended). o .final .known) ends)
-              (ap (drop 32) (ran .bytes) ∙ drop-at (take 32 out) rest 32 (length-take-le 32 out space)
-              ∙ ap₂ (λ (ss : List Step) (m : ℕ). stepsBytes ss ++ drop (32 + 40 * m) out) steps count)
+            written
+            ∙ when-le 32 (length out′) (bytesOf 32 (value (r .known)) ++ drop 32 out′) out′ wide
+            ∙ ap₂ (λ (a : ℕ) (b : List ℕ). bytesOf 32 a ++ b)
+            (ap (λ (k : Knowledge). k .known) (ran .state) ∙ ap (λ (o : Ended). o .final .known) ends)
+            (ap (drop 32) (ran .bytes) ∙ drop-at (take 32 out) rest 32 (length-take-le 32 out space)
+            ∙ ap₂ (λ (ss : List Step) (m : ℕ). stepsBytes ss ++ drop (32 + 40 * m) out) steps count);
       }
     where
       long : (a b l : List ℕ) → l ≡ a ++ b → length a ≤ length l

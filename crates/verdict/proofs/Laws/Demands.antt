@@ -127,15 +127,16 @@ module _ (s : List ℕ) (cut budget : ℕ) (ok : refusal s ≡ 0) (within : cut 
 
   run-stopped : o .verdict ≡ exhausted
       → (length (o .steps) ≡ budget) × (¬ Holds (map (termAt (entryAt s)) (startHeads s cut ++ map (λ (r : Step). r .head) (o .steps))) (goalTerm s))
-        × ((r : Step) × Follows (termAt (entryAt s)) (countOf s) (startHeads s cut ++ map (λ (r : Step). r .head) (o .steps)) r)
+      × ((r : Step) × Follows (termAt (entryAt s)) (countOf s) (startHeads s cut ++ map (λ (r : Step). r .head) (o .steps)) r)
   unfolding outcomeOf startOf
   run-stopped p =
       let (q, unknown, (r, f)) = exhausted-exact (entryAt s) (countOf s) (g .downward) (g .few) (goalOf s) budget (startHeads s cut) heads p in
-      let l = learnt-steps (entryAt s) (countOf s) (g .downward) (g .few) (goalOf s) budget (startHeads s cut) heads in
-      (q,
-      (λ h. unknown (held-known (entryAt s) (countOf s) (g .downward) (o .learnt) (learnt-heads (entryAt s) (countOf s) (g .downward) (g .few) (goalOf s) budget (startHeads s cut) heads) (goalOf s) (g .goal)
-        (subst (λ (es : List ℕ). Holds (map (termAt (entryAt s)) es) (goalTerm s)) (sym l) h))),
-      (r, subst (λ (es : List ℕ). Follows (termAt (entryAt s)) (countOf s) es r) l f))
+      let l = learnt-steps (entryAt s) (countOf s) (g .downward) (g .few) (goalOf s) budget (startHeads s cut) heads in (
+        q,
+        (λ h. unknown (held-known (entryAt s) (countOf s) (g .downward) (o .learnt) (learnt-heads (entryAt s) (countOf s) (g .downward) (g .few) (goalOf s) budget (startHeads s cut) heads) (goalOf s) (g .goal)
+            (subst (λ (es : List ℕ). Holds (map (termAt (entryAt s)) es) (goalTerm s)) (sym l) h))),
+        (r, subst (λ (es : List ℕ). Follows (termAt (entryAt s)) (countOf s) es r) l f),
+      )
 
   -- the number of a verdict and a count names both
   module _ (answer : ℕ) (is : answer ≡ verdictCode (o .verdict) + length (o .steps)) where
@@ -193,9 +194,9 @@ module _ (s : List ℕ) (cut budget : ℕ) (ok : refusal s ≡ 0) (within : cut 
           reached = λ h. (subst (λ (ss : List Step). (end : List Term) × Replays (termAt (entryAt s)) (countOf s) (startTerms s cut) ss end × Holds end (goalTerm s)) back (run-passes (is-reached h)), run-few);
           out-of-reach = λ h. run-out (is-out h);
           stopped = λ h.
-            subst
-            (λ (ss : List Step).
+              subst
+              (λ (ss : List Step).
               (length (o .steps) ≡ budget) × (¬ Holds (map (termAt (entryAt s)) (startHeads s cut ++ map (λ (r : Step). r .head) ss)) (goalTerm s))
               × ((r : Step) × Follows (termAt (entryAt s)) (countOf s) (startHeads s cut ++ map (λ (r : Step). r .head) ss) r))
-            back (run-stopped (is-stopped h))
+              back (run-stopped (is-stopped h));
         }

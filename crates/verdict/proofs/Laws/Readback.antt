@@ -27,7 +27,7 @@ read-step s rest h =
       rule = div-add-mod' (s .rule) 256 i;
       first = div-add-mod' (s .first) 256 i;
       second = div-add-mod' (s .second) 256 i;
-      set = (ap setOf (take-at (bytesOf 32 (s .set)) rest 32 (length-bytesOf 32 (s .set))) ∙ setOf-bytesOf 32 (s .set) ∙ mod-eq-of-lt h) i
+      set = (ap setOf (take-at (bytesOf 32 (s .set)) rest 32 (length-bytesOf 32 (s .set))) ∙ setOf-bytesOf 32 (s .set) ∙ mod-eq-of-lt h) i;
     }
 
 -- the bytes of the steps from the k-th on
@@ -60,13 +60,13 @@ module _ (front : List ℕ) (ss : List Step) (rest : List ℕ) (thirty-two : len
   read-front zero h = refl
   read-front (suc k) h =
       ap₂ (λ (l : List Step) (s : Step). l ++ (s ∷ [])) (read-front k (le-of-lt h))
-        (ap readStep
-          (ap (λ (n : ℕ). drop (n + 40 * k) out) (sym thirty-two)
-          ∙ drop-append-add front (stepsBytes ss ++ rest) (40 * k)
-          ∙ drop-steps ss rest k (le-of-lt h)
-          ∙ ap (λ (l : List Step). stepsBytes l ++ rest) (drop-cons ss k none h)
-          ∙ append-assoc (stepBytes (getD ss k none)) (stepsBytes (drop (suc k) ss)) rest)
-        ∙ read-step (getD ss k none) (stepsBytes (drop (suc k) ss) ++ rest) (narrow (getD ss k none) (getD-member ss k none h)))
+      (ap readStep
+      (ap (λ (n : ℕ). drop (n + 40 * k) out) (sym thirty-two)
+      ∙ drop-append-add front (stepsBytes ss ++ rest) (40 * k)
+      ∙ drop-steps ss rest k (le-of-lt h)
+      ∙ ap (λ (l : List Step). stepsBytes l ++ rest) (drop-cons ss k none h)
+      ∙ append-assoc (stepBytes (getD ss k none)) (stepsBytes (drop (suc k) ss)) rest)
+      ∙ read-step (getD ss k none) (stepsBytes (drop (suc k) ss) ++ rest) (narrow (getD ss k none) (getD-member ss k none h)))
       ∙ sym (take-suc ss k none h)
 
   -- all of them

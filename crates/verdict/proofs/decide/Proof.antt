@@ -22,7 +22,7 @@ hear-requires c κs = let s = c .before .before .before .before .before .before 
       rep = t .right .rep;
       words = refl;
       lines = t .sized .set;
-      fresh = t .right .set
+      fresh = t .right .set;
     }
 
 run-requires : tie.Need-run-requires
@@ -38,7 +38,7 @@ run-requires c κs = let s = c .before .before .before .before .before .before .
       room = h .1 .0;
       cache = h .1 .1 .1;
       limit = s .pre .2;
-      space = s .pre .3
+      space = s .pre .3;
     }
 
 write-requires : tie.Need-write-requires

@@ -52,9 +52,16 @@ empty-requires c κs = search needs
 
 loop-holds : tie.Need-loop-holds Inv-loop μ-loop
 loop-holds c = let s = c .before .before .before in
-    let r = s .pre in
-    (c .before .count .ensures, search needs, r, heard-none (now (s .args .s)) (c .empty .result) (now (s .args .rows)) (c .empty .ensures), search needs, r .words, r .lines,
-    remainders-first (setAt (entryAt (now (s .args .s)))) (countOf (now (s .args .s))) (now (s .args .rows)) (now (s .args .remainders)) (r .fresh))
+    let r = s .pre in (
+      c .before .count .ensures,
+      search needs,
+      r,
+      heard-none (now (s .args .s)) (c .empty .result) (now (s .args .rows)) (c .empty .ensures),
+      search needs,
+      r .words,
+      r .lines,
+      remainders-first (setAt (entryAt (now (s .args .s)))) (countOf (now (s .args .s))) (now (s .args .rows)) (now (s .args .remainders)) (r .fresh),
+    )
 
 trace-at-requires : tie.Need-trace-at-requires Inv-loop μ-loop
 trace-at-requires c κs = search needs
@@ -89,12 +96,17 @@ loop-again c = let a = c .before .before .before .before .before .before .before
     let m = c .before .gain in
     let h = a .loop .inv .2 in
     let t = c .before .before .before .before .before .before .before .loop-test .taken in
-    let q = c .before .before .before .before .before .before .trace-at .ensures in
-    (c .before .before .before .before .before .before .before .before .before .before .count .ensures, omega (arith, t), h,
-    heard-more (now (s .args .s)) (a .loop .k) (a .loop .known) (a .loop .rows) (a .loop .len) _ _ (m .result .known) (m .last .1 .0) (m .result .len) (a .loop .inv .3) (heard-head h (a .loop .k) t q) (h .set _ (heard-low h (a .loop .k) t q)) (m .ensures .0),
-    m .ensures .1 .0, m .ensures .1 .1 .0 .size ∙ a .loop .inv .5, m .ensures .1 .1 .1 .1 .size ∙ a .loop .inv .6,
-    subst (λ (n : ℕ). Remainders (setAt (entryAt (now (s .args .s)))) n (m .last .1 .0) (m .result .len) (m .last .1 .1 .1 .0)) (a .loop .inv .0)
-    (m .ensures .1 .1 .1 .0 (setAt (entryAt (now (s .args .s)))) (subst (λ (n : ℕ). Remainders (setAt (entryAt (now (s .args .s)))) n (a .loop .rows) (a .loop .len) (a .loop .remainders)) (sym (a .loop .inv .0)) (a .loop .inv .7))))
+    let q = c .before .before .before .before .before .before .trace-at .ensures in (
+      c .before .before .before .before .before .before .before .before .before .before .count .ensures,
+      omega (arith, t),
+      h,
+      heard-more (now (s .args .s)) (a .loop .k) (a .loop .known) (a .loop .rows) (a .loop .len) _ _ (m .result .known) (m .last .1 .0) (m .result .len) (a .loop .inv .3) (heard-head h (a .loop .k) t q) (h .set _ (heard-low h (a .loop .k) t q)) (m .ensures .0),
+      m .ensures .1 .0,
+      m .ensures .1 .1 .0 .size ∙ a .loop .inv .5,
+      m .ensures .1 .1 .1 .1 .size ∙ a .loop .inv .6,
+      subst (λ (n : ℕ). Remainders (setAt (entryAt (now (s .args .s)))) n (m .last .1 .0) (m .result .len) (m .last .1 .1 .1 .0)) (a .loop .inv .0)
+          (m .ensures .1 .1 .1 .0 (setAt (entryAt (now (s .args .s)))) (subst (λ (n : ℕ). Remainders (setAt (entryAt (now (s .args .s)))) n (a .loop .rows) (a .loop .len) (a .loop .remainders)) (sym (a .loop .inv .0)) (a .loop .inv .7))),
+    )
 
 returns : tie.Need-returns Inv-loop μ-loop
 returns c = let a = c .before in

@@ -7,13 +7,13 @@ use Rattle.derive.proofs.next.built.Statement.{statement}
 use Rattle.derive.proofs.next.built.Tie as tie
 
 -- where neither arm returned
-no-pair : (c : tie.Joined1) → let k = c .before in let a = k .before .args in NotBuilt (value (a .known)) (a .key) (a .i) (k .kind .ensures) 2
+no-pair : (c : tie.Joined1) → let k = c .before in let a = k .before .args in NotBuilt (value (a .known)) (a .key) 2
 no-pair c = let k = c .before in
     let a = k .before .args in
     ⊎-elim (λ w. parts-unknown (value (a .known)) (a .key) (a .i) (k .kind .ensures) 2 (w .1 .ensures) (w .2 .left))
     (λ w. kind-other (value (a .known)) (a .key) (a .i) (k .kind .ensures) 2 (w .left)) (c .if1 .came)
 
-no-enc : (c : tie.Joined3) → let k = c .before .before in let a = k .before .args in NotBuilt (value (a .known)) (a .key) (a .i) (k .kind .ensures) 3
+no-enc : (c : tie.Joined3) → let k = c .before .before in let a = k .before .args in NotBuilt (value (a .known)) (a .key) 3
 no-enc c = let k = c .before .before in
     let a = k .before .args in
     ⊎-elim (λ w. parts-unknown (value (a .known)) (a .key) (a .i) (k .kind .ensures) 3 (w .1 .ensures) (w .2 .left))
@@ -35,7 +35,8 @@ returns : tie.Need-returns
 returns c = let b = c .before .before .before in
     let k = b .before .before in
     let a = k .before .args in
-    built-pair (value (a .known)) (a .key) (a .i) (k .kind .ensures) (a .summed) (b .before .if1 .taken) (b .both-known .ensures) (c .before .before .if2 .taken) (c .before .left .ensures) (c .number .ensures)
+    built-pair (value (a .known)) (a .key) (a .i) (k .kind .ensures) (a .summed) (b .before .if1 .taken)
+    (b .both-known .ensures) (c .before .before .if2 .taken) (c .before .left .ensures) (c .number .ensures)
 
 both-known-requires-2 : tie.Need-both-known-requires-2
 both-known-requires-2 c κs = search needs
@@ -51,7 +52,8 @@ returns-2 c = let b = c .before .before .before in
     let j = b .before .before in
     let k = j .before in
     let a = k .before .args in
-    built-enc (value (a .known)) (a .key) (a .i) (k .kind .ensures) (a .summed) (no-pair j) (b .before .if3 .taken) (b .both-known2 .ensures) (c .before .before .if4 .taken) (c .before .left2 .ensures) (c .number2 .ensures)
+    built-enc (value (a .known)) (a .key) (a .i) (k .kind .ensures) (a .summed) (no-pair j) (b .before .if3 .taken)
+    (b .both-known2 .ensures) (c .before .before .if4 .taken) (c .before .left2 .ensures) (c .number2 .ensures)
 
 number-requires-3 : tie.Need-number-requires-3
 number-requires-3 c κs = search needs

@@ -27,7 +27,8 @@ returns : tie.Need-returns
 returns c = let b = c .before .before .before .before .before in
     let s = b .before .before in
     let a = s .args in
-    opened-pair (value (a .known)) (a .key) (a .i) (b .before .kind .ensures) (b .if1 .taken) (c .before .before .before .before .left .ensures) (c .before .before .before .offer .ensures) (c .before .before .right .ensures) (c .before .offer2 .ensures) (c .least .ensures)
+    opened-pair (value (a .known)) (a .key) (a .i) (b .before .kind .ensures) (b .if1 .taken)
+    (c .before .before .before .before .left .ensures) (c .before .before .before .offer .ensures) (c .before .before .right .ensures) (c .before .offer2 .ensures) (c .least .ensures)
 
 right-requires-2 : tie.Need-right-requires-2
 right-requires-2 c κs = search needs
@@ -46,13 +47,16 @@ returns-2 c = let d = c .before .before .before .before .before in
     let b = d .before in
     let a = b .before .before .args in
     let m = c .before .before in
-    opened-enc (value (a .known)) (a .key) (a .i) (b .before .kind .ensures) (b .if1 .left) (d .if2 .taken) (part-test (value (a .known)) (m .before .before .right2 .ensures) (m .before .member .ensures) (m .if3 .taken)) (c .before .left2 .ensures) (c .offer3 .ensures)
+    opened-enc (value (a .known)) (a .key) (a .i) (b .before .kind .ensures) (b .if1 .left) (d .if2 .taken)
+    (part-test (value (a .known)) (m .before .before .right2 .ensures) (m .before .member .ensures) (m .if3 .taken))
+    (c .before .left2 .ensures) (c .offer3 .ensures)
 
 returns-3 : tie.Need-returns-3
 returns-3 c = let d = c .before .before .before in
     let b = d .before in
     let a = b .before .before .args in
-    opened-shut (value (a .known)) (a .key) (a .i) (b .before .kind .ensures) (b .if1 .left) (d .if2 .taken) (part-test (value (a .known)) (c .before .before .right2 .ensures) (c .before .member .ensures) (c .if3 .left))
+    opened-shut (value (a .known)) (a .key) (a .i) (b .before .kind .ensures) (b .if1 .left) (d .if2 .taken)
+    (part-test (value (a .known)) (c .before .before .right2 .ensures) (c .before .member .ensures) (c .if3 .left))
 
 returns-4 : tie.Need-returns-4
 returns-4 c = let b = c .before in

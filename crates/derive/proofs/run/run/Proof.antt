@@ -17,7 +17,7 @@ use Rattle.derive.specs.declared.run.Verdict.the-variants.{Derivable, Un
 use Rattle.derive.proofs.Laws.Along.{Along, along-start, along-end, along-step}
 use Rattle.derive.proofs.Laws.Machine.{machine-derivable, machine-underivable, machine-exhausted}
 use Rattle.derive.proofs.Laws.Buffer.{written-length, part-room, part-back}
-use Rattle.derive.proofs.Laws.Assumed.{sheet-next, sheet-step, sheet-head}
+use Rattle.derive.proofs.Laws.Search.{sheet-next, sheet-step, sheet-head, sheet-below}
 use Rattle.dag.specs.Sheet.{countOf, goalOf}
 use Rattle.dag.specs.Record.{entryAt}
 use Rattle.dag.proofs.Laws.Good.{good}
@@ -109,9 +109,13 @@ element-copy-out-goal : tie.Need-element-copy-out-goal Inv-loop μ-loop
 element-copy-out-goal c = let s = c .before .before .before .before in lt-of-lt-of-le (lt-of-le-of-lt (le-of-eq (c .goal .ensures)) (good (now (s .args .s)) (s .pre .good) .goal)) (good (now (s .args .s)) (s .pre .good) .few)
 
 loop-holds : tie.Need-loop-holds Inv-loop μ-loop
-loop-holds c = let s = c .before .before .before .before .before in
-    (c .before .before .count .ensures, ap (λ (i : ℕ). getD (now (s .args .reps)) i 0) (c .before .goal .ensures) ∙ s .pre .right .rep (goalOf (now (s .args .s))) (good (now (s .args .s)) (s .pre .good) .goal), s .pre,
-    along-start (now (s .args .s)) (now (s .args .keys)) (now (s .args .sets)) (now (s .args .reps)) (s .args .known) (now (s .args .rows)) (s .args .len) (now (s .args .remainders)) (s .args .budget) (now (s .args .out)) (s .pre), rows-first s)
+loop-holds c = let s = c .before .before .before .before .before in (
+  c .before .before .count .ensures,
+  ap (λ (i : ℕ). getD (now (s .args .reps)) i 0) (c .before .goal .ensures) ∙ s .pre .right .rep (goalOf (now (s .args .s))) (good (now (s .args .s)) (s .pre .good) .goal),
+  s .pre,
+  along-start (now (s .args .s)) (now (s .args .keys)) (now (s .args .sets)) (now (s .args .reps)) (s .args .known) (now (s .args .rows)) (s .args .len) (now (s .args .remainders)) (s .args .budget) (now (s .args .out)) (s .pre),
+  rows-first s,
+)
 
 member-requires : tie.Need-member-requires Inv-loop μ-loop
 member-requires c κs = search needs
@@ -176,15 +180,19 @@ loop-again c = let a = c .before .before .before .before .before .before .before
     let some = c .before .before .before .before .before .before .before .before .if2 .left in
     let sh = now (s .args .s) in
     let bytes : (j : ℕ) → getD sh j 0 < 256 = λ j. c .before .before .before .before .before .before .before .before .before .before .before .before .before .before .before .before .before .before .shared-slice-known .given j .fits in
-    let hd = sheet-head sh (s .pre .good) bytes (now (s .args .keys)) (now (s .args .sets)) (now (s .args .reps)) (s .pre .right) k x f some in
-    (c .before .before .before .before .before .before .before .before .before .before .before .before .before .before .before .before .count .ensures, a .loop .inv .1, s .pre,
-    along-step (a .loop .inv .3) (less (c .before .before .before .before .before .before .before)) (omega (arith, s .pre .space)) (tested (c .before .before .before .before .before .before .before .before .before .before .before .before) ∙ c .before .before .before .before .before .before .before .before .before .before .before .if1 .left) x f some
-    (stepIn (now (s .args .keys)) (now (s .args .sets)) (rowsOf (a .loop .rows) (a .loop .used)) x)
-    (sheet-step sh (s .pre .good) bytes (now (s .args .keys)) (now (s .args .sets)) (now (s .args .reps)) (s .pre .right) k x f some)
-    (x / 65536 % 256) (value (getD (now (s .args .sets)) (x / 65536 % 256) [])) (hd .0) (s .pre .right .set (x / 65536 % 256) (hd .1))
-    _ _ _ _ _ (m .ensures .1 .0) (part-back (a .loop .out) (32 + 40 * a .loop .made) (stepBytes (stepIn (now (s .args .keys)) (now (s .args .sets)) (rowsOf (a .loop .rows) (a .loop .used)) x)) (m .last .1 .1 .1 .1 .1 .1 .1 .1 .0) (m .ensures .0)) (m .ensures .1 .1 .0) (m .ensures .1 .1 .1 .0)
-    (subst (λ (n : ℕ). (g : ℕ → ℕ) → Remainders g n (a .loop .rows) (a .loop .used) (a .loop .remainders) → Remainders g n (m .last .1 .1 .1 .1 .0) (m .result .len) (m .last .1 .1 .1 .1 .1 .1 .0)) (a .loop .inv .0) (m .ensures .1 .1 .1 .1 .0))
-    (subst (λ (n : ℕ). SameOutside 0 n (a .loop .remainders) (m .last .1 .1 .1 .1 .1 .1 .0)) (a .loop .inv .0) (m .ensures .1 .1 .1 .1 .1)), rows-more (c .before .before .before))
+    let hd = sheet-head sh (s .pre .good) bytes (now (s .args .keys)) (now (s .args .sets)) (now (s .args .reps)) (s .pre .right) k x f some in (
+      c .before .before .before .before .before .before .before .before .before .before .before .before .before .before .before .before .count .ensures,
+      a .loop .inv .1,
+      s .pre,
+      along-step (a .loop .inv .3) (less (c .before .before .before .before .before .before .before)) (omega (arith, s .pre .space)) (tested (c .before .before .before .before .before .before .before .before .before .before .before .before) ∙ c .before .before .before .before .before .before .before .before .before .before .before .if1 .left) x f some
+          (stepIn (now (s .args .keys)) (now (s .args .sets)) (rowsOf (a .loop .rows) (a .loop .used)) x)
+          (sheet-step sh (s .pre .good) bytes (now (s .args .keys)) (now (s .args .sets)) (now (s .args .reps)) (s .pre .right) k x f some)
+          (x / 65536 % 256) (value (getD (now (s .args .sets)) (x / 65536 % 256) [])) hd (s .pre .right .set (x / 65536 % 256) (subst (λ (i : ℕ). i < countOf sh) (sym hd) (sheet-below sh (s .pre .good) bytes (now (s .args .keys)) (now (s .args .sets)) (now (s .args .reps)) (s .pre .right) k x f some)))
+          _ _ _ _ _ (m .ensures .1 .0) (part-back (a .loop .out) (32 + 40 * a .loop .made) (stepBytes (stepIn (now (s .args .keys)) (now (s .args .sets)) (rowsOf (a .loop .rows) (a .loop .used)) x)) (m .last .1 .1 .1 .1 .1 .1 .1 .1 .0) (m .ensures .0)) (m .ensures .1 .1 .0) (m .ensures .1 .1 .1 .0)
+          (subst (λ (n : ℕ). (g : ℕ → ℕ) → Remainders g n (a .loop .rows) (a .loop .used) (a .loop .remainders) → Remainders g n (m .last .1 .1 .1 .1 .0) (m .result .len) (m .last .1 .1 .1 .1 .1 .1 .0)) (a .loop .inv .0) (m .ensures .1 .1 .1 .1 .0))
+          (subst (λ (n : ℕ). SameOutside 0 n (a .loop .remainders) (m .last .1 .1 .1 .1 .1 .1 .0)) (a .loop .inv .0) (m .ensures .1 .1 .1 .1 .1)),
+      rows-more (c .before .before .before),
+    )
 
 pub run-spec : {M : Type 1} → statement M
 run-spec =
