@@ -2,3 +2,4 @@ pub mod Readback
 pub mod Demands
 pub mod Hearing
 pub mod Decide
+pub mod Answered

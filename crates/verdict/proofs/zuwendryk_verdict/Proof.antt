@@ -1,5 +1,9 @@
--- x
+-- `verdict::zuwendryk_verdict` meets its contract: the number of the verdict's answer.
+use mathlib.Core.Path.{_≡_, sym, _∙_, subst}
+use Prim.Native.Nat.{ℕ}
 use borrow.Author.Needs.{needs}
+use denote.Ref.{now}
+use Rattle.verdict.specs.Demands.{Meets}
 use Rattle.verdict.proofs.zuwendryk_verdict.Statement.{statement}
 use Rattle.verdict.proofs.zuwendryk_verdict.Tie as tie
 
@@ -13,7 +17,9 @@ same-length : tie.Need-same-length
 same-length c = search needs
 
 returns : tie.Need-returns
-returns c = ?
+returns c = let s = c .before .before .before .before .before .before .before .args in
+    let v = c .before .before .before .verdict .ensures in
+    (c .number .ensures ∙ v .0, (v .1 .0, λ p. subst (Meets (now (s .sheet)) (s .cut) (s .budget) (c .before .before .before .verdict .last .1 .1 .1 .0)) (sym (c .number .ensures)) (v .1 .1 p)))
 
 pub zuwendryk-verdict-spec : {M : Type 1} → statement M
 zuwendryk-verdict-spec = tie.close (tie.spec verdict-requires number-requires same-length returns)

@@ -1,0 +1,158 @@
+-- The rows 8 to 10 after 1 to 7, and the answer of a call that is refused or not. Assumes nothing.
+use mathlib.Core.Path.{_≡_, refl, sym, ap, ap₂, _∙_, subst}
+use mathlib.Core.Bool.{Bool, true, false, cond}
+use mathlib.Core.List.{List, _++_}
+use Prim.Native.Nat.{ℕ, zero, suc, _+_, _*_, _≤_, _<_}
+use native.Mathlib.Omega.{arith}
+use borrow.Author.Tests.{lt-ltb, le-ltb, ltb-false, eq-eqb, ne-eqb}
+use lib.Dec.{eqb, ltb}
+use lib.ListN.{length, drop}
+use Rattle.bitset.specs.Words.{bytesOf}
+use Rattle.bitset.proofs.Laws.Bytes.{length-bytesOf}
+use Rattle.deduction.specs.Run.{Verdict, knowledge}
+use Rattle.dag.specs.Sheet.{traceLength}
+use Rattle.dag.specs.Record.{entryAt}
+use Rattle.dag.specs.Refusal.{when, orElse, refusal}
+use Rattle.dag.proofs.Laws.Refusal.{when-yes, when-no, when-zero, orElse-none, orElse-some, orElse-zero-left, orElse-zero-right}
+use Rattle.derive.specs.Bytes.{stepsBytes}
+use Rattle.derive.specs.Ran.{verdictOf}
+use Rattle.derive.specs.declared.run.Ended.{Ended}
+use Rattle.derive.specs.declared.run.Verdict as program
+use Rattle.verdict.specs.Answer.{refusalOf, outcomeOf, verdictCode, answerOf, bufferOf}
+use Rattle.verdict.specs.Demands.{Meets}
+use Rattle.verdict.specs.Inner.{Decided}
+use Rattle.verdict.proofs.Laws.Demands.{meets}
+
+module _ (s : List ℕ) (cut budget space : ℕ) where
+  row8 : ℕ
+  row8 = when (ltb (traceLength s) cut) 8
+
+  row9 : ℕ
+  row9 = when (ltb 256 budget) 9
+
+  row10 : ℕ
+  row10 = when (ltb space (32 + 40 * budget)) 10
+
+  pub refused-sheet : (refusal s ≡ 0 → ⊥) → refusal s ≡ refusalOf s cut budget space
+  unfolding refusalOf row8 row9 row10
+  refused-sheet n = sym (orElse-some (refusal s) (orElse row8 (orElse row9 row10)) n)
+
+  past1 : refusal s ≡ 0 → orElse row8 (orElse row9 row10) ≡ refusalOf s cut budget space
+  unfolding refusalOf row8 row9 row10
+  past1 p = sym (orElse-none (refusal s) (orElse row8 (orElse row9 row10)) p)
+
+  pub refused-cut : refusal s ≡ 0 → traceLength s < cut → 8 ≡ refusalOf s cut budget space
+  unfolding row8
+  refused-cut p h =
+      let q : 8 ≡ row8 = when-yes 8 (lt-ltb (traceLength s) cut h) in
+      q ∙ sym (orElse-some row8 (orElse row9 row10) (λ z. eight (q ∙ z))) ∙ past1 p
+    where
+      eight : _≡_ {A = ℕ} 8 0 → ⊥
+      eight r = omega arith
+
+  past8 : refusal s ≡ 0 → cut ≤ traceLength s → orElse row9 row10 ≡ refusalOf s cut budget space
+  unfolding row8
+  past8 p h = sym (orElse-none row8 (orElse row9 row10) (sym (when-no 8 (le-ltb (traceLength s) cut h)))) ∙ past1 p
+
+  pub refused-budget : refusal s ≡ 0 → cut ≤ traceLength s → 256 < budget → 9 ≡ refusalOf s cut budget space
+  unfolding row9
+  refused-budget p h l =
+      let q : 9 ≡ row9 = when-yes 9 (lt-ltb 256 budget l) in
+      q ∙ sym (orElse-some row9 row10 (λ z. nine (q ∙ z))) ∙ past8 p h
+    where
+      nine : _≡_ {A = ℕ} 9 0 → ⊥
+      nine r = omega arith
+
+  past9 : refusal s ≡ 0 → cut ≤ traceLength s → budget ≤ 256 → row10 ≡ refusalOf s cut budget space
+  unfolding row9
+  past9 p h l = sym (orElse-none row9 row10 (sym (when-no 9 (le-ltb 256 budget l)))) ∙ past8 p h
+
+  pub refused-space : refusal s ≡ 0 → cut ≤ traceLength s → budget ≤ 256 → space < 32 + 40 * budget → 10 ≡ refusalOf s cut budget space
+  unfolding row10
+  refused-space p h l r = when-yes 10 (lt-ltb space (32 + 40 * budget) r) ∙ past9 p h l
+
+  pub accepted : refusal s ≡ 0 → cut ≤ traceLength s → budget ≤ 256 → 32 + 40 * budget ≤ space → 0 ≡ refusalOf s cut budget space
+  unfolding row10
+  accepted p h l r = when-no 10 (le-ltb space (32 + 40 * budget) r) ∙ past9 p h l
+
+  -- what a call that isn't refused was given
+  module _ (ok : refusalOf s cut budget space ≡ 0) where
+    pub ok-sheet : refusal s ≡ 0
+    unfolding refusalOf
+    ok-sheet = orElse-zero-left (refusal s) _ ok
+
+    rest1 : orElse row8 (orElse row9 row10) ≡ 0
+    unfolding refusalOf row8 row9 row10
+    rest1 = orElse-zero-right (refusal s) _ ok
+
+    pub ok-cut : cut ≤ traceLength s
+    unfolding row8
+    ok-cut = ltb-false (traceLength s) cut (when-zero _ 7 (orElse-zero-left row8 _ rest1))
+
+    rest8 : orElse row9 row10 ≡ 0
+    rest8 = orElse-zero-right row8 _ rest1
+
+    pub ok-budget : budget ≤ 256
+    unfolding row9
+    ok-budget = ltb-false 256 budget (when-zero _ 8 (orElse-zero-left row9 _ rest8))
+
+    pub ok-space : 32 + 40 * budget ≤ space
+    unfolding row10
+    ok-space = ltb-false space (32 + 40 * budget) (when-zero _ 9 (orElse-zero-right row9 _ rest8))
+
+-- a refused call
+pub refused-answer : (s : List ℕ) (cut budget space : ℕ) → (refusalOf s cut budget space ≡ 0 → ⊥) → refusalOf s cut budget space ≡ answerOf s cut budget space
+unfolding answerOf
+refused-answer s cut budget space n =
+    sym
+    (ap
+    (λ (b : Bool).
+    cond b (verdictCode (outcomeOf s cut budget .verdict) + length (outcomeOf s cut budget .steps)) (refusalOf s cut budget space))
+    (ne-eqb (refusalOf s cut budget space) 0 n))
+
+pub refused-buffer : (s : List ℕ) (cut budget : ℕ) (old : List ℕ) → (refusalOf s cut budget (length old) ≡ 0 → ⊥) → old ≡ bufferOf s cut budget old
+unfolding bufferOf
+refused-buffer s cut budget old n =
+    sym
+    (ap
+    (λ (b : Bool).
+    cond b
+    (bytesOf 32 (knowledge (entryAt s) (outcomeOf s cut budget .learnt) .known)
+    ++ (stepsBytes (outcomeOf s cut budget .steps) ++ drop (32 + 40 * length (outcomeOf s cut budget .steps)) old))
+    old)
+    (ne-eqb (refusalOf s cut budget (length old)) 0 n))
+
+-- a call that isn't refused
+module _ (s : List ℕ) (cut budget : ℕ) (out out′ : List ℕ) (r : Ended) (d : Decided s cut budget out out′ r) (ok : refusalOf s cut budget (length out) ≡ 0) (v : program.Verdict) (is : r .verdict ≡ v) where
+  number-is : verdictCode (verdictOf v) + r .made ≡ verdictCode (outcomeOf s cut budget .verdict) + length (outcomeOf s cut budget .steps)
+  number-is = ap₂ (λ (w : Verdict) (k : ℕ). verdictCode w + k) (ap verdictOf (sym is) ∙ d .verdict) (d .count)
+
+  pub answered : verdictCode (verdictOf v) + r .made ≡ answerOf s cut budget (length out)
+  unfolding answerOf
+  answered =
+      number-is
+      ∙ sym
+      (ap
+      (λ (b : Bool).
+      cond b (verdictCode (outcomeOf s cut budget .verdict) + length (outcomeOf s cut budget .steps)) (refusalOf s cut budget (length out)))
+      (eq-eqb (refusalOf s cut budget (length out)) 0 ok))
+
+  pub answered-buffer : out′ ≡ bufferOf s cut budget out
+  unfolding bufferOf
+  answered-buffer =
+      d .bytes
+      ∙ sym
+      (ap
+      (λ (b : Bool).
+      cond b
+      (bytesOf 32 (knowledge (entryAt s) (outcomeOf s cut budget .learnt) .known)
+      ++ (stepsBytes (outcomeOf s cut budget .steps) ++ drop (32 + 40 * length (outcomeOf s cut budget .steps)) out))
+      out)
+      (eq-eqb (refusalOf s cut budget (length out)) 0 ok))
+
+  pub answered-meets : Meets s cut budget out′ (verdictCode (verdictOf v) + r .made)
+  answered-meets =
+      subst (λ (o : List ℕ). Meets s cut budget o (verdictCode (verdictOf v) + r .made)) (sym (d .bytes))
+      (meets s cut budget (ok-sheet s cut budget (length out) ok) (ok-cut s cut budget (length out) ok) (verdictCode (verdictOf v) + r .made) number-is
+      (bytesOf 32 (knowledge (entryAt s) (outcomeOf s cut budget .learnt) .known)) (drop (32 + 40 * length (outcomeOf s cut budget .steps)) out)
+      (length-bytesOf 32 (knowledge (entryAt s) (outcomeOf s cut budget .learnt) .known)))
