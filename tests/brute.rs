@@ -439,11 +439,11 @@ fn large(t: &mut Tally) -> u32 {
     let s = sheet(&longest, &[255; 256], 0);
     assert_eq!(s.len(), 34444);
     want("the longest good sheet", &s, 256, 256, 2000);
-    // sums of odd many neighbours unwind to the last atom
+    // sums of neighbours unwind to the last atom; the first sum is an atom itself
     let mut sums: Vec<Entry> = (0..128).map(|i| Atom(i as u16)).collect();
     sums.extend((0..128u16).map(|i| Sum((0..=i.min(63)).map(|k| i - k).collect())));
     let heard: Vec<u16> = (128..256).collect();
-    want("128 dense sums", &sheet(&sums, &heard, 127), 128, 256, 1128);
+    want("128 dense sums", &sheet(&sums, &heard, 127), 128, 256, 1127);
     wrong
 }
 

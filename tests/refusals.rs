@@ -5,7 +5,6 @@
 mod sheets;
 use sheets::{damage, random_entries, refusal, sheet, Entry, Random};
 
-#[link(name = "dag", kind = "static")]
 extern "C" {
     fn zuwendryk_validate(sheet: *const u8, len: usize) -> u32;
 }

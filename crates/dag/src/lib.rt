@@ -71,11 +71,3 @@ pub fn validate(s: &[u8]) -> Refusal
 {
     named(faults::refused(s))
 }
-
-// The same for callers in C: the number of the refusal, or 0 for a good sheet.
-#[no_mangle]
-pub extern "C" fn zuwendryk_validate(sheet: &[u8]) -> u32
-    ensures { λ r. ⌜ r ≡ refusal (now (sheet .entry)) ⌝ }
-{
-    code(validate(sheet))
-}

@@ -154,3 +154,11 @@ pub extern "C" fn zuwendryk_verdict(sheet: &[u8], cut: u32, budget: u32, buffer:
 {
     number(verdict(sheet, cut, budget, buffer))
 }
+
+// Is this a good sheet? For callers in C: the number of the refusal, 1 to 7, or 0.
+#[no_mangle]
+pub extern "C" fn zuwendryk_validate(sheet: &[u8]) -> u32
+    ensures { λ r. ⌜ r ≡ refusal (now (sheet .entry)) ⌝ }
+{
+    dag::code(dag::validate(sheet))
+}
