@@ -3,3 +3,4 @@ pub mod Answer
 pub mod Demands
 pub mod Code
 pub mod Inner
+pub mod Card

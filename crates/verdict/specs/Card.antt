@@ -1,0 +1,100 @@
+-- The starred cases of the flight card: sheet, cut, budget and buffer length; the answer, the number of known entries, and the rungs.
+-- Defined: `rows`, the table, and `Yields`, what a row claims of the definitions. That every row holds is one theorem (proofs/Card.antt).
+use Prim.Native.Nat.{ℕ}
+use mathlib.Core.Path.{_≡_}
+use mathlib.Core.List.{List, [], _∷_}
+use lib.Count.{ones}
+use Rattle.deduction.specs.Run.{knowledge}
+use Rattle.dag.specs.Record.{entryAt}
+use Rattle.deduction.specs.Step.{Step, step, unused}
+use Rattle.verdict.specs.Answer.{outcomeOf, answerOf}
+
+pub record Case : Type 0 where
+  pub sheet : List ℕ
+  pub cut : ℕ
+  pub budget : ℕ
+  pub space : ℕ
+  pub answer : ℕ
+  pub known : ℕ
+  pub steps : List Step
+
+case : List ℕ → ℕ → ℕ → ℕ → ℕ → ℕ → List Step → Case
+case s cut budget space answer known steps =
+    record { sheet = s; cut = cut; budget = budget; space = space; answer = answer; known = known; steps = steps }
+
+-- the letters SHT1, and two-byte numbers
+abbrev pub head : List ℕ → List ℕ
+head l = 0x53 ∷ 0x48 ∷ 0x54 ∷ 0x31 ∷ l
+
+-- "Sheet A has atoms 7, 9 as entries 0, 1; entry 2 sum of 0 and 1; entry 3 atom 12; entry 4 seal of 3 under 0; heard 2, 4, 1; goal 3; 55 bytes"
+abbrev pub sheetA : List ℕ
+sheetA =
+    head
+    (0 ∷ 5 ∷ 0 ∷ 3 ∷ 0 ∷ 3
+    ∷ 0 ∷ 36 ∷ 0 ∷ 3 ∷ 0 ∷ 39 ∷ 0 ∷ 3 ∷ 0 ∷ 42 ∷ 0 ∷ 5 ∷ 0 ∷ 47 ∷ 0 ∷ 3 ∷ 0 ∷ 50 ∷ 0 ∷ 5
+    ∷ 0 ∷ 2 ∷ 0 ∷ 4 ∷ 0 ∷ 1
+    ∷ 1 ∷ 0 ∷ 7 ∷ 1 ∷ 0 ∷ 9 ∷ 4 ∷ 0 ∷ 0 ∷ 0 ∷ 1 ∷ 1 ∷ 0 ∷ 12 ∷ 3 ∷ 0 ∷ 3 ∷ 0 ∷ 0 ∷ [])
+
+-- "One entry, zero, nothing heard, goal 0"
+abbrev pub sheet4 : List ℕ
+sheet4 = head (0 ∷ 1 ∷ 0 ∷ 0 ∷ 0 ∷ 0 ∷ 0 ∷ 14 ∷ 0 ∷ 1 ∷ 0 ∷ [])
+
+-- "Zero, and its pair with itself, nothing heard, goal the pair"
+abbrev pub sheet5 : List ℕ
+sheet5 = head (0 ∷ 2 ∷ 0 ∷ 0 ∷ 0 ∷ 1 ∷ 0 ∷ 18 ∷ 0 ∷ 1 ∷ 0 ∷ 19 ∷ 0 ∷ 5 ∷ 0 ∷ 2 ∷ 0 ∷ 0 ∷ 0 ∷ 0 ∷ [])
+
+-- "Atom; sum of 0, 0; sum of 0, 1; heard entry 2, goal 0"
+abbrev pub sheet6 : List ℕ
+sheet6 =
+    head
+    (0 ∷ 3 ∷ 0 ∷ 1 ∷ 0 ∷ 0 ∷ 0 ∷ 24 ∷ 0 ∷ 3 ∷ 0 ∷ 27 ∷ 0 ∷ 5 ∷ 0 ∷ 32 ∷ 0 ∷ 5 ∷ 0 ∷ 2 ∷ 1 ∷ 0 ∷ 1 ∷ 4 ∷ 0 ∷ 0 ∷ 0 ∷ 0 ∷ 4 ∷ 0 ∷ 0 ∷ 0 ∷ 1 ∷ [])
+
+-- "Atom; it sealed under itself; the seal heard; goal the atom"
+abbrev pub sheet7 : List ℕ
+sheet7 = head (0 ∷ 2 ∷ 0 ∷ 1 ∷ 0 ∷ 0 ∷ 0 ∷ 20 ∷ 0 ∷ 3 ∷ 0 ∷ 23 ∷ 0 ∷ 5 ∷ 0 ∷ 1 ∷ 1 ∷ 0 ∷ 1 ∷ 3 ∷ 0 ∷ 0 ∷ 0 ∷ 0 ∷ [])
+
+-- "Different atoms m, k, then seal of m under k, sum of that seal and m; heard the sum, then k; goal m"
+abbrev pub sheet8 : List ℕ
+sheet8 =
+    head
+    (0 ∷ 4 ∷ 0 ∷ 2 ∷ 0 ∷ 0 ∷ 0 ∷ 30 ∷ 0 ∷ 3 ∷ 0 ∷ 33 ∷ 0 ∷ 3 ∷ 0 ∷ 36 ∷ 0 ∷ 5 ∷ 0 ∷ 41 ∷ 0 ∷ 5 ∷ 0 ∷ 3 ∷ 0 ∷ 1
+    ∷ 1 ∷ 0 ∷ 1 ∷ 1 ∷ 0 ∷ 2 ∷ 3 ∷ 0 ∷ 0 ∷ 0 ∷ 1 ∷ 4 ∷ 0 ∷ 2 ∷ 0 ∷ 0 ∷ [])
+
+-- the rungs of sheet A at cut 3: "rung 0 sum 1 2" and "rung 3 open 4 0"
+abbrev pub sumRung : Step
+sumRung = step 0 6 unused unused 6
+
+abbrev pub openRung : Step
+openRung = step 3 3 4 0 0
+
+unfoldable pub rows : List Case
+unfolding case
+rows =
+    -- the card of sheet A, cut by cut
+    case sheetA 0 256 10272 2000 0 []
+    ∷ case sheetA 1 256 10272 2000 1 []
+    ∷ case sheetA 2 256 10272 2000 2 []
+    -- cases 1 to 3
+    ∷ case sheetA 3 256 10272 1002 5 (sumRung ∷ openRung ∷ [])
+    ∷ case sheetA 2 0 32 2000 2 []
+    ∷ case sheetA 3 0 32 3000 3 []
+    ∷ case sheetA 3 1 72 3001 4 (sumRung ∷ [])
+    ∷ case sheetA 3 2 112 1002 5 (sumRung ∷ openRung ∷ [])
+    -- cases 4 to 8
+    ∷ case sheet4 0 256 10272 1001 1 (step 0 6 unused unused 0 ∷ [])
+    ∷ case sheet5 0 256 10272 1002 2 (step 0 6 unused unused 0 ∷ step 1 4 0 0 0 ∷ [])
+    ∷ case sheet6 1 256 10272 1000 1 []
+    ∷ case sheet7 1 256 10272 2000 1 []
+    ∷ case sheet8 2 256 10272 2000 2 []
+    ∷ []
+
+-- the definitions yield the row
+abbrev pub Yields : Case → Type 0
+Yields c =
+    (answerOf (c .sheet) (c .cut) (c .budget) (c .space) ≡ c .answer)
+    × (ones (knowledge (entryAt (c .sheet)) (outcomeOf (c .sheet) (c .cut) (c .budget) .learnt) .known) ≡ c .known)
+    × (outcomeOf (c .sheet) (c .cut) (c .budget) .steps ≡ c .steps)
+
+abbrev pub AllYield : List Case → Type 0
+AllYield [] = Unit {0}
+AllYield (c ∷ cs) = Yields c × AllYield cs
