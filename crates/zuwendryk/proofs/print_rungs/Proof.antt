@@ -1,0 +1,49 @@
+-- `zuwendryk::print_rungs` ends: i counts up to n.
+use Prim.Native.Nat.{_-_, _≤_}
+use native.Mathlib.Omega.{arith}
+use borrow.Author.Needs.{needs}
+use Rattle.zuwendryk.proofs.print_rungs.Statement.{statement}
+use Rattle.zuwendryk.proofs.print_rungs.Tie as tie
+
+abbrev Inv-loop : tie.InvT-loop
+Inv-loop buffer n i₀ i =
+    i ≤ n
+
+abbrev μ-loop : tie.MeasureT-loop
+μ-loop buffer n i₀ i =
+    n - i
+
+loop-holds : tie.Need-loop-holds Inv-loop μ-loop
+loop-holds c = search needs
+
+rung-at-requires : tie.Need-rung-at-requires Inv-loop μ-loop
+rung-at-requires c κs = search needs
+
+print-rung-requires : tie.Need-print-rung-requires Inv-loop μ-loop
+print-rung-requires c κs = search needs
+
+add-i : tie.Need-add-i Inv-loop μ-loop
+add-i c = search needs
+
+loop-less : tie.Need-loop-less Inv-loop μ-loop
+loop-less c = search needs
+
+loop-again : tie.Need-loop-again Inv-loop μ-loop
+loop-again c = search needs
+
+returns : tie.Need-returns Inv-loop μ-loop
+returns c = search needs
+
+pub print-rungs-spec : {M : Type 1} → statement M
+print-rungs-spec =
+    tie.close
+    (tie.spec
+    Inv-loop
+    μ-loop
+    loop-holds
+    rung-at-requires
+    print-rung-requires
+    add-i
+    loop-less
+    loop-again
+    returns)
