@@ -1,0 +1,108 @@
+// The program, run on sheets and compared with their cards: those of the flight card and each kind of line, refused input, and random small
+// sheets whose card is made from the reading of document 01. The program's path is the first argument.
+
+#[allow(dead_code)] // each test uses a part
+mod sheets;
+#[allow(dead_code)]
+mod reading;
+use reading::{read, work, Answer};
+use sheets::{damage, random_entries, refusal, sheet, Entry, Random};
+use std::io::Write;
+use std::process::{Command, Stdio};
+
+fn run(program: &str, input: &[u8]) -> String {
+    let mut child = Command::new(program).stdin(Stdio::piped()).stdout(Stdio::piped()).spawn().expect("the program starts");
+    let mut stdin = child.stdin.take().unwrap();
+    // The program reads no further than it needs, so a broken pipe is no fault.
+    let _ = stdin.write_all(input);
+    drop(stdin);
+    let out = child.wait_with_output().unwrap();
+    assert!(out.status.success());
+    String::from_utf8(out.stdout).expect("the card is text")
+}
+
+// The card by the reading.
+fn card(s: &[u8]) -> String {
+    let refused = refusal(s);
+    if refused != 0 {
+        return format!("refused {refused}\n");
+    }
+    let sheet = read(s);
+    let words = ["", "left", "right", "open", "join", "seal", "sum"];
+    let mut text = format!("goal {} heard {}\n", sheet.goal, sheet.heard.len());
+    for cut in 0..=sheet.heard.len() {
+        let (answer, rungs, w) = work(&sheet, cut, 256);
+        match answer {
+            Answer::OutOfReach => text += &format!("cut {cut} out of reach known {}\n", w.gained.len()),
+            Answer::Stopped => unreachable!("256 rungs are enough"),
+            Answer::Reached => {
+                text += &format!("cut {cut} reached rungs {}\n", rungs.len());
+                for r in rungs {
+                    text += &format!("rung {} {}", r.head, words[r.rule]);
+                    let sources: Vec<usize> = match r.rule {
+                        1 | 2 => vec![r.first],
+                        3..=5 => vec![r.first, r.second],
+                        _ => r.set.into_iter().collect(),
+                    };
+                    for source in sources {
+                        text += &format!(" {source}");
+                    }
+                    text += "\n";
+                }
+                break;
+            }
+        }
+    }
+    text
+}
+
+fn main() {
+    use Entry::*;
+    let program = std::env::args().nth(1).expect("the program's path");
+    let (mut passed, mut failed) = (0, 0);
+    let mut check = |what: &str, input: &[u8], want: &str| {
+        let got = run(&program, input);
+        if got == want {
+            passed += 1;
+        } else {
+            failed += 1;
+            println!("{what}: printed\n{got}wanted\n{want}");
+        }
+    };
+    let a = sheet(&[Atom(7), Atom(9), Sum(vec![0, 1]), Atom(12), Seal(3, 0)], &[2, 4, 1], 3);
+    check(
+        "sheet A",
+        &a,
+        "goal 3 heard 3\ncut 0 out of reach known 0\ncut 1 out of reach known 1\ncut 2 out of reach known 2\ncut 3 reached rungs 2\nrung 0 sum 1 2\nrung 3 open 4 0\n",
+    );
+    check("a sum of nothing", &sheet(&[Zero], &[], 0), "goal 0 heard 0\ncut 0 reached rungs 1\nrung 0 sum\n");
+    check("never reached", &sheet(&[Atom(1), Seal(0, 0)], &[1], 0), "goal 0 heard 1\ncut 0 out of reach known 0\ncut 1 out of reach known 1\n");
+    check("the goal's own entry is printed", &sheet(&[Atom(1), Sum(vec![0])], &[0], 1), "goal 1 heard 1\ncut 0 out of reach known 0\ncut 1 reached rungs 0\n");
+    check(
+        "each rule",
+        // k, m, p = (m, k), q = (p, p), s = seal of q under k, goal = (s, sum of m and k), heard: the seal and the key, then the parts come out
+        &sheet(&[Atom(1), Atom(2), Pair(1, 0), Pair(2, 2), Seal(3, 0), Sum(vec![0, 1]), Pair(4, 5), Seal(6, 1)], &[4, 0], 7),
+        "goal 7 heard 2\ncut 0 out of reach known 0\ncut 1 out of reach known 1\ncut 2 reached rungs 6\nrung 3 open 4 0\nrung 2 left 3\nrung 1 left 2\nrung 5 sum 0 1\nrung 6 join 4 5\nrung 7 seal 6 1\n",
+    );
+    check(
+        "the right of a pair",
+        &sheet(&[Atom(1), Atom(2), Pair(0, 1)], &[2], 1),
+        "goal 1 heard 1\ncut 0 out of reach known 0\ncut 1 reached rungs 2\nrung 0 left 2\nrung 1 right 2\n",
+    );
+    check("no input", &[], "refused 1\n");
+    check("another file", b"hello, world\n", "refused 1\n");
+    check("a trailing byte", &[a.clone(), vec![0]].concat(), "refused 4\n");
+    check("an item equal to its own entry", &sheet(&[Zero, Sum(vec![1])], &[], 0), "refused 6\n");
+    check("far too long", &[a, vec![0; 100_000]].concat(), "refused 1\n");
+    let mut r = Random(0x853c49e6748fea9b);
+    for _ in 0..400 {
+        let (entries, heard, goal) = random_entries(&mut r, 9);
+        let whole = sheet(&entries, &heard, goal);
+        let s = if r.below(4) == 0 { damage(&mut r, whole) } else { whole };
+        check("a random sheet", &s, &card(&s));
+    }
+    println!("program: {passed} passed, {failed} failed");
+    if failed > 0 {
+        std::process::exit(1);
+    }
+}
