@@ -7,7 +7,7 @@ ghost use lib.Bits.{bitXor};
 ghost use lib.Count.{ones};
 ghost use lib.Dec.{eqb, leb};
 ghost use mathlib.Core.Bool.{cond};
-ghost use lib.ListN.{length, take, drop};
+ghost use lib.ListN.{length, take, drop, getD};
 ghost use Rattle.bitset.specs.Set.{member, insert, single, leading};
 ghost use Rattle.bitset.specs.Words.{value, bytesOf, setOf};
 
@@ -18,12 +18,28 @@ pub fn empty() -> [u64; 4]
     [0, 0, 0, 0]
 }
 
+// Word w of s: by tests and not by an index, so that a set in registers stays there.
+fn nth(s: [u64; 4], w: u8) -> u64
+    requires { ⌜ w < 4 ⌝ }
+    ensures { λ r. ⌜ r ≡ getD s w 0 ⌝ }
+{
+    if w == 0 {
+        return s[0];
+    }
+    if w == 1 {
+        return s[1];
+    }
+    if w == 2 {
+        return s[2];
+    }
+    s[3]
+}
+
 // Is e in s?
 pub fn member(s: [u64; 4], e: u8) -> bool
     ensures { λ r. ⌜ r ≡ member (value s) e ⌝ }
 {
-    let w = s[(e / 64) as usize];
-    (w >> (e % 64)) % 2 == 1
+    (nth(s, e / 64) >> (e % 64)) % 2 == 1
 }
 
 // Exactly e.

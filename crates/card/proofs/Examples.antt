@@ -4,7 +4,7 @@ use mathlib.Core.List.{List, [], _∷_}
 use Prim.Native.Nat.{ℕ}
 use Rattle.bitset.specs.Set.{member}
 use Rattle.card.specs.Decimal.{digits, decimal}
-use Rattle.card.specs.Line.{sources, ruleText, goalLine, outLine, reachedLine, rungLine, refusedLine}
+use Rattle.card.specs.Line.{sources, ruleText, goalLine, outLine, reachedLine, stepLine, refusedLine}
 
 -- "goal 3 heard 3"
 goal-example : goalLine 3 3 ≡ 103 ∷ 111 ∷ 97 ∷ 108 ∷ 32 ∷ 51 ∷ 32 ∷ 104 ∷ 101 ∷ 97 ∷ 114 ∷ 100 ∷ 32 ∷ 51 ∷ 10 ∷ []
@@ -22,22 +22,22 @@ unfolding digits decimal sources ruleText member
 reached-example = refl
 
 -- "rung 0 sum 1 2"
-sum-example : rungLine 0 6 65535 65535 6 ≡ 114 ∷ 117 ∷ 110 ∷ 103 ∷ 32 ∷ 48 ∷ 32 ∷ 115 ∷ 117 ∷ 109 ∷ 32 ∷ 49 ∷ 32 ∷ 50 ∷ 10 ∷ []
+sum-example : stepLine 0 6 65535 65535 6 ≡ 114 ∷ 117 ∷ 110 ∷ 103 ∷ 32 ∷ 48 ∷ 32 ∷ 115 ∷ 117 ∷ 109 ∷ 32 ∷ 49 ∷ 32 ∷ 50 ∷ 10 ∷ []
 unfolding digits decimal sources ruleText member
 sum-example = refl
 
 -- "rung 3 open 4 0"
-open-example : rungLine 3 3 4 0 0 ≡ 114 ∷ 117 ∷ 110 ∷ 103 ∷ 32 ∷ 51 ∷ 32 ∷ 111 ∷ 112 ∷ 101 ∷ 110 ∷ 32 ∷ 52 ∷ 32 ∷ 48 ∷ 10 ∷ []
+open-example : stepLine 3 3 4 0 0 ≡ 114 ∷ 117 ∷ 110 ∷ 103 ∷ 32 ∷ 51 ∷ 32 ∷ 111 ∷ 112 ∷ 101 ∷ 110 ∷ 32 ∷ 52 ∷ 32 ∷ 48 ∷ 10 ∷ []
 unfolding digits decimal sources ruleText member
 open-example = refl
 
 -- "rung 0 sum"
-empty-sum-example : rungLine 0 6 65535 65535 0 ≡ 114 ∷ 117 ∷ 110 ∷ 103 ∷ 32 ∷ 48 ∷ 32 ∷ 115 ∷ 117 ∷ 109 ∷ 10 ∷ []
+empty-sum-example : stepLine 0 6 65535 65535 0 ≡ 114 ∷ 117 ∷ 110 ∷ 103 ∷ 32 ∷ 48 ∷ 32 ∷ 115 ∷ 117 ∷ 109 ∷ 10 ∷ []
 unfolding digits decimal sources ruleText member
 empty-sum-example = refl
 
 -- "rung 107 left 255"
-left-example : rungLine 107 1 255 65535 0 ≡ 114 ∷ 117 ∷ 110 ∷ 103 ∷ 32 ∷ 49 ∷ 48 ∷ 55 ∷ 32 ∷ 108 ∷ 101 ∷ 102 ∷ 116 ∷ 32 ∷ 50 ∷ 53 ∷ 53 ∷ 10 ∷ []
+left-example : stepLine 107 1 255 65535 0 ≡ 114 ∷ 117 ∷ 110 ∷ 103 ∷ 32 ∷ 49 ∷ 48 ∷ 55 ∷ 32 ∷ 108 ∷ 101 ∷ 102 ∷ 116 ∷ 32 ∷ 50 ∷ 53 ∷ 53 ∷ 10 ∷ []
 unfolding digits decimal sources ruleText member
 left-example = refl
 

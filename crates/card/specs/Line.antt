@@ -6,7 +6,7 @@ use mathlib.Core.Bool.{cond}
 use lib.ListN.{getD}
 use Rattle.bitset.specs.Set.{member}
 use Rattle.card.specs.Decimal.{decimal}
-use Rattle.card.specs.Words.{goal-word, heard-word, cut-word, out-of-reach-word, stopped-word, reached-word, rung-word, left-word, right-word, open-word, join-word, seal-word, sum-word, refused-word, newline}
+use Rattle.card.specs.Words.{goal-word, trace-word, cut-word, out-of-reach-word, stopped-word, reached-word, step-word, left-word, right-word, open-word, join-word, seal-word, sum-word, refused-word, newline}
 
 -- " N"
 abbrev pub spaced : ℕ → List ℕ
@@ -46,7 +46,7 @@ pairLine before a between b = field before a ++ field between b ++ newline
 
 -- goal G heard H
 abbrev pub goalLine : ℕ → ℕ → List ℕ
-goalLine goal heard = pairLine goal-word goal heard-word heard
+goalLine goal trace = pairLine goal-word goal trace-word trace
 
 -- cut C out of reach known K
 abbrev pub outLine : ℕ → ℕ → List ℕ
@@ -54,15 +54,15 @@ outLine cut known = pairLine cut-word cut out-of-reach-word known
 
 -- cut C stopped rungs R
 abbrev pub stoppedLine : ℕ → ℕ → List ℕ
-stoppedLine cut rungs = pairLine cut-word cut stopped-word rungs
+stoppedLine cut made = pairLine cut-word cut stopped-word made
 
 -- cut C reached rungs R
 abbrev pub reachedLine : ℕ → ℕ → List ℕ
-reachedLine cut rungs = pairLine cut-word cut reached-word rungs
+reachedLine cut made = pairLine cut-word cut reached-word made
 
 -- rung HEAD WORD SOURCES
-abbrev pub rungLine : ℕ → ℕ → ℕ → ℕ → ℕ → List ℕ
-rungLine head rule first second set = field rung-word head ++ ruleText rule first second set ++ newline
+abbrev pub stepLine : ℕ → ℕ → ℕ → ℕ → ℕ → List ℕ
+stepLine head rule first second set = field step-word head ++ ruleText rule first second set ++ newline
 
 -- refused N
 abbrev pub refusedLine : ℕ → List ℕ

@@ -7,8 +7,8 @@ abbrev pub goal-word : List ℕ
 goal-word = 103 ∷ 111 ∷ 97 ∷ 108 ∷ []
 
 -- " heard"
-abbrev pub heard-word : List ℕ
-heard-word = 32 ∷ 104 ∷ 101 ∷ 97 ∷ 114 ∷ 100 ∷ []
+abbrev pub trace-word : List ℕ
+trace-word = 32 ∷ 104 ∷ 101 ∷ 97 ∷ 114 ∷ 100 ∷ []
 
 -- "cut"
 abbrev pub cut-word : List ℕ
@@ -27,8 +27,8 @@ abbrev pub reached-word : List ℕ
 reached-word = 32 ∷ 114 ∷ 101 ∷ 97 ∷ 99 ∷ 104 ∷ 101 ∷ 100 ∷ 32 ∷ 114 ∷ 117 ∷ 110 ∷ 103 ∷ 115 ∷ []
 
 -- "rung"
-abbrev pub rung-word : List ℕ
-rung-word = 114 ∷ 117 ∷ 110 ∷ 103 ∷ []
+abbrev pub step-word : List ℕ
+step-word = 114 ∷ 117 ∷ 110 ∷ 103 ∷ []
 
 -- " left"
 abbrev pub left-word : List ℕ

@@ -6,7 +6,7 @@ ghost use Prim.Native.Nat.{_+_, _≤_};
 ghost use lib.ListN.{length};
 ghost use Rattle.bitset.specs.Words.{value};
 ghost use Rattle.card.specs.Decimal.{decimal};
-ghost use Rattle.card.specs.Line.{spaced, field, source, sources, ruleText, pairLine, goalLine, outLine, stoppedLine, reachedLine, rungLine, refusedLine};
+ghost use Rattle.card.specs.Line.{spaced, field, source, sources, ruleText, pairLine, goalLine, outLine, stoppedLine, reachedLine, stepLine, refusedLine};
 ghost use Rattle.card.specs.Buffer.{Appended, Printed};
 
 // Appends a word.
@@ -129,10 +129,10 @@ fn pair_line(out: &mut [u8], before: &[u8], a: u32, between: &[u8], b: u32) -> u
 }
 
 // goal G heard H
-pub fn goal_line(out: &mut [u8], goal: u16, heard: u16) -> usize
-    ensures { λ r. ⌜ Printed (goalLine goal heard) (now (out .entry)) (now (out .exit)) r ⌝ }
+pub fn goal_line(out: &mut [u8], goal: u16, trace: u16) -> usize
+    ensures { λ r. ⌜ Printed (goalLine goal trace) (now (out .entry)) (now (out .exit)) r ⌝ }
 {
-    pair_line(out, b"goal", goal as u32, b" heard", heard as u32)
+    pair_line(out, b"goal", goal as u32, b" heard", trace as u32)
 }
 
 // cut C out of reach known K
@@ -143,21 +143,21 @@ pub fn out_line(out: &mut [u8], cut: u16, known: u32) -> usize
 }
 
 // cut C stopped rungs R
-pub fn stopped_line(out: &mut [u8], cut: u16, rungs: u16) -> usize
-    ensures { λ r. ⌜ Printed (stoppedLine cut rungs) (now (out .entry)) (now (out .exit)) r ⌝ }
+pub fn stopped_line(out: &mut [u8], cut: u16, made: u16) -> usize
+    ensures { λ r. ⌜ Printed (stoppedLine cut made) (now (out .entry)) (now (out .exit)) r ⌝ }
 {
-    pair_line(out, b"cut", cut as u32, b" stopped rungs", rungs as u32)
+    pair_line(out, b"cut", cut as u32, b" stopped rungs", made as u32)
 }
 
 // cut C reached rungs R
-pub fn reached_line(out: &mut [u8], cut: u16, rungs: u16) -> usize
-    ensures { λ r. ⌜ Printed (reachedLine cut rungs) (now (out .entry)) (now (out .exit)) r ⌝ }
+pub fn reached_line(out: &mut [u8], cut: u16, made: u16) -> usize
+    ensures { λ r. ⌜ Printed (reachedLine cut made) (now (out .entry)) (now (out .exit)) r ⌝ }
 {
-    pair_line(out, b"cut", cut as u32, b" reached rungs", rungs as u32)
+    pair_line(out, b"cut", cut as u32, b" reached rungs", made as u32)
 }
 
 // rung HEAD WORD SOURCES
-pub fn rung_line(
+pub fn step_line(
     out: &mut [u8],
     head: u16,
     rule: u16,
@@ -165,7 +165,7 @@ pub fn rung_line(
     second: u16,
     set: [u64; 4],
 ) -> usize
-    ensures { λ r. ⌜ Printed (rungLine head rule first second (value set)) (now (out .entry)) (now (out .exit)) r ⌝ }
+    ensures { λ r. ⌜ Printed (stepLine head rule first second (value set)) (now (out .entry)) (now (out .exit)) r ⌝ }
 {
     if out.len() < 2048 {
         return 0;

@@ -1,5 +1,5 @@
 -- What a run needs and what it hands back.
--- Defined: `verdictOf`, the verdict that the program's answer names; `Ready`, the tables, the state and the buffer at the start; `Ran`, all
+-- Defined: `verdictOf`, the verdict that the program's answer names; `endAs`, the end of a run; `Ready`, the tables, the state and the buffer at the start; `Ran`, all
 -- that holds at the end: verdict, count, state, and every byte and word that may have been written.
 use Prim.Native.Nat.{ℕ, _+_, _*_, _≤_}
 use mathlib.Core.Path.{_≡_}
@@ -23,6 +23,9 @@ abbrev pub verdictOf : Verdict → theory.Verdict
 verdictOf Derivable = theory.derivable
 verdictOf Underivable = theory.underivable
 verdictOf Exhausted = theory.exhausted
+
+abbrev pub endAs : Verdict → ℕ → List ℕ → ℕ → program.Ended
+endAs v made known len = record { verdict = v; made = made; known = known; len = len }
 
 pub record Ready (s keys : List ℕ) (sets : List (List ℕ)) (reps known rows : List ℕ) (len : ℕ) (remainders : List (List ℕ)) (budget : ℕ) (out : List ℕ) : Type 0 where
   pub good : refusal s ≡ 0

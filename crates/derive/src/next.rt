@@ -8,6 +8,7 @@ ghost use Rattle.bitset.specs.Words.{value};
 ghost use Rattle.knowledge.specs.Rows.{rowsOf};
 ghost use Rattle.derive.specs.Bytes.{stepOf};
 ghost use Rattle.deduction.specs.Run.{number};
+ghost use Rattle.deduction.specs.Step.{step};
 ghost use Rattle.derive.specs.Search.{offered, openedLeast, bothKnown, builtLeast, lineLeast, searchLeast, stepIn};
 use crate::Step;
 
@@ -126,6 +127,19 @@ pub fn next(
     best
 }
 
+// A step by a rule other than the sum: its set is empty.
+fn without_set(head: u8, rule: u8, first: u8, second: u16) -> Step
+    ensures { λ r. ⌜ stepOf r ≡ step head rule first second 0 ⌝ }
+{
+    Step {
+        head,
+        rule,
+        first: first as u16,
+        second,
+        set: bitset::empty(),
+    }
+}
+
 // The whole step of a number: its second source from the keys, and for a sum the set of learnt entries used.
 pub fn step_of(
     x: u32,
@@ -140,35 +154,16 @@ pub fn step_of(
     let head = (x / 65536 % 256) as u8;
     let rule = (x / 256 % 256) as u8;
     let first = (x % 256) as u8;
-    let none = bitset::empty();
     if rule < 3 {
-        return Step {
-            head,
-            rule,
-            first: first as u16,
-            second: 65535,
-            set: none,
-        };
+        return without_set(head, rule, first, 65535);
     }
     if rule == 3 {
         let key = canonical::right(keys[first as usize]);
-        return Step {
-            head,
-            rule,
-            first: first as u16,
-            second: key as u16,
-            set: none,
-        };
+        return without_set(head, rule, first, key as u16);
     }
     if rule < 6 {
         let right = canonical::right(keys[head as usize]);
-        return Step {
-            head,
-            rule,
-            first: first as u16,
-            second: right as u16,
-            set: none,
-        };
+        return without_set(head, rule, first, right as u16);
     }
     let reduced = knowledge::reduce(rows, len, sets[head as usize]);
     let used = reduced.used;

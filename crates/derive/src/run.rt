@@ -9,7 +9,7 @@ ghost use Rattle.knowledge.specs.Rows.{rowsOf, SameOutside, Remainders};
 ghost use Rattle.knowledge.specs.State.{stateOf, Room};
 ghost use Rattle.derive.specs.Bytes.{stepBytes};
 ghost use Rattle.derive.specs.Search.{stepIn};
-ghost use Rattle.derive.specs.Ran.{Ready, Ran};
+ghost use Rattle.derive.specs.Ran.{endAs, Ready, Ran};
 use crate::next;
 use crate::writer;
 use dag::sheet;
@@ -28,6 +28,18 @@ pub struct Ended {
     pub made: u16,
     pub known: [u64; 4],
     pub len: usize,
+}
+
+// The end of a run.
+fn end_as(verdict: Verdict, made: u16, known: [u64; 4], len: usize) -> Ended
+    ensures { λ r. ⌜ r ≡ endAs verdict made known len ⌝ }
+{
+    Ended {
+        verdict,
+        made,
+        known,
+        len,
+    }
 }
 
 // Makes the step of a number: writes it at the front of out and learns its head.
@@ -78,29 +90,14 @@ pub fn run(
     let mut made: u16 = 0;
     loop {
         if bitset::member(have, goal) {
-            return Ended {
-                verdict: Verdict::Derivable,
-                made,
-                known: have,
-                len: used,
-            };
+            return end_as(Verdict::Derivable, made, have, used);
         }
         let x = next::next(keys, reps, n, have, remainders);
         if x == 16777216 {
-            return Ended {
-                verdict: Verdict::Underivable,
-                made,
-                known: have,
-                len: used,
-            };
+            return end_as(Verdict::Underivable, made, have, used);
         }
         if made == budget {
-            return Ended {
-                verdict: Verdict::Exhausted,
-                made,
-                known: have,
-                len: used,
-            };
+            return end_as(Verdict::Exhausted, made, have, used);
         }
         let from = 32 + 40 * (made as usize);
         let learnt = make(

@@ -61,11 +61,11 @@ sheet8 =
     ∷ 1 ∷ 0 ∷ 1 ∷ 1 ∷ 0 ∷ 2 ∷ 3 ∷ 0 ∷ 0 ∷ 0 ∷ 1 ∷ 4 ∷ 0 ∷ 2 ∷ 0 ∷ 0 ∷ [])
 
 -- the rungs of sheet A at cut 3: "rung 0 sum 1 2" and "rung 3 open 4 0"
-abbrev pub sumRung : Step
-sumRung = step 0 6 unused unused 6
+abbrev pub sumStep : Step
+sumStep = step 0 6 unused unused 6
 
-abbrev pub openRung : Step
-openRung = step 3 3 4 0 0
+abbrev pub openStep : Step
+openStep = step 3 3 4 0 0
 
 unfoldable pub rows : List Case
 unfolding case
@@ -75,11 +75,11 @@ rows =
     ∷ case sheetA 1 256 10272 2000 1 []
     ∷ case sheetA 2 256 10272 2000 2 []
     -- cases 1 to 3
-    ∷ case sheetA 3 256 10272 1002 5 (sumRung ∷ openRung ∷ [])
+    ∷ case sheetA 3 256 10272 1002 5 (sumStep ∷ openStep ∷ [])
     ∷ case sheetA 2 0 32 2000 2 []
     ∷ case sheetA 3 0 32 3000 3 []
-    ∷ case sheetA 3 1 72 3001 4 (sumRung ∷ [])
-    ∷ case sheetA 3 2 112 1002 5 (sumRung ∷ openRung ∷ [])
+    ∷ case sheetA 3 1 72 3001 4 (sumStep ∷ [])
+    ∷ case sheetA 3 2 112 1002 5 (sumStep ∷ openStep ∷ [])
     -- cases 4 to 8
     ∷ case sheet4 0 256 10272 1001 1 (step 0 6 unused unused 0 ∷ [])
     ∷ case sheet5 0 256 10272 1002 2 (step 0 6 unused unused 0 ∷ step 1 4 0 0 0 ∷ [])

@@ -74,8 +74,8 @@ fn decide(s: &[u8], cut: u16, budget: u16, out: &mut [u8]) -> Ended
     let mut rows = [0u64; 2048];
     canonical::tables(s, &mut keys, &mut sets, &mut reps);
     let mut remainders = sets;
-    let heard = hear(s, cut, &sets, &reps, &mut rows, &mut remainders);
-    let known = heard.known;
+    let start = hear(s, cut, &sets, &reps, &mut rows, &mut remainders);
+    let known = start.known;
     let ended = derive::run::run(
         s,
         &keys,
@@ -83,7 +83,7 @@ fn decide(s: &[u8], cut: u16, budget: u16, out: &mut [u8]) -> Ended
         &reps,
         known,
         &mut rows,
-        heard.len,
+        start.len,
         &mut remainders,
         budget,
         out,

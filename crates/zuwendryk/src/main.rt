@@ -13,7 +13,7 @@ fn print(line: &[u8], len: usize) {
 }
 
 // The bytes of the buffer from rung i on.
-fn rung_at(buffer: &[u8], i: u16) -> &[u8] {
+fn step_at(buffer: &[u8], i: u16) -> &[u8] {
     let from = 32 + 40 * (i as usize);
     if buffer.len() < from {
         return &buffer[0..0];
@@ -22,25 +22,25 @@ fn rung_at(buffer: &[u8], i: u16) -> &[u8] {
 }
 
 // Prints one rung.
-fn print_rung(rung: &[u8]) {
+fn print_step(step: &[u8]) {
     let mut line = [0u8; 2048];
-    let head = sheet::number_at(rung, 0);
-    let rule = sheet::number_at(rung, 2);
-    let first = sheet::number_at(rung, 4);
-    let second = sheet::number_at(rung, 6);
+    let head = sheet::number_at(step, 0);
+    let rule = sheet::number_at(step, 2);
+    let first = sheet::number_at(step, 4);
+    let second = sheet::number_at(step, 6);
     let mut set = bitset::empty();
-    if 8 <= rung.len() {
-        let read = bitset::read(&rung[8..]);
+    if 8 <= step.len() {
+        let read = bitset::read(&step[8..]);
         set = read;
     }
-    let len = card::rung_line(&mut line, head, rule, first, second, set);
+    let len = card::step_line(&mut line, head, rule, first, second, set);
     print(&line, len);
 }
 
 // Prints the first n rungs of the buffer.
-fn print_rungs(buffer: &[u8], n: u16) {
+fn print_steps(buffer: &[u8], n: u16) {
     for i in 0..n {
-        print_rung(rung_at(buffer, i));
+        print_step(step_at(buffer, i));
     }
 }
 
@@ -53,7 +53,7 @@ fn print_cut(input: &[u8], cut: u16, buffer: &mut [u8]) -> bool {
         Answer::Derivable(n) => {
             let len = card::reached_line(&mut line, cut, n);
             print(&line, len);
-            print_rungs(buffer, n);
+            print_steps(buffer, n);
             false
         }
         Answer::Underivable(_) => {
@@ -78,10 +78,10 @@ fn print_card(input: &[u8]) {
         print(&line, len);
         return;
     }
-    let heard = sheet::trace_len(input);
-    let len = card::goal_line(&mut line, sheet::goal(input), heard);
+    let trace = sheet::trace_len(input);
+    let len = card::goal_line(&mut line, sheet::goal(input), trace);
     print(&line, len);
-    print_cuts(input, heard);
+    print_cuts(input, trace);
 }
 
 // Prints the cuts from 0 to the last, up to the first at which the goal is reached.

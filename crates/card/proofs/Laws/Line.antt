@@ -9,8 +9,8 @@ use native.Mathlib.Omega.{arith}
 use lib.ListN.{length, getD, set, length-append}
 use Rattle.bitset.specs.Set.{member}
 use Rattle.card.specs.Decimal.{decimal}
-use Rattle.card.specs.Words.{rung-word, refused-word, newline, left-word, right-word, open-word, join-word, seal-word, sum-word}
-use Rattle.card.specs.Line.{spaced, field, source, sources, ruleText, pairLine, rungLine, refusedLine}
+use Rattle.card.specs.Words.{step-word, refused-word, newline, left-word, right-word, open-word, join-word, seal-word, sum-word}
+use Rattle.card.specs.Line.{spaced, field, source, sources, ruleText, pairLine, stepLine, refusedLine}
 use Rattle.card.proofs.Laws.Decimal.{decimal-small, decimal-more, decimal-longer, decimal-length}
 use Rattle.card.proofs.Laws.Buffer.{append-as, append-byte, append-more, append-length, next-room}
 use Rattle.card.specs.Buffer.{Appended}
@@ -151,12 +151,12 @@ pub sum-room : (d : List ℕ) (at s : ℕ) → at + 1100 ≤ length d → at + l
 sum-room d at s room = let a = sources-length s 256 (le-of-eq refl) in omega arith
 
 -- after the head of a rung there is room for its rule
-pub rung-room : (d : List ℕ) (head : ℕ) → 2048 ≤ length d → head < 2 ^ 32 → {d₁ : List ℕ} {r₁ : ℕ} → Appended d 0 (field rung-word head) d₁ r₁
+pub step-room : (d : List ℕ) (head : ℕ) → 2048 ≤ length d → head < 2 ^ 32 → {d₁ : List ℕ} {r₁ : ℕ} → Appended d 0 (field step-word head) d₁ r₁
     → r₁ + 1100 ≤ length d₁
-rung-room d head long h done =
+step-room d head long h done =
     let a = spaced-length head h in
     let b = done .place in
-    let e = append-length d 0 (field rung-word head) (omega arith) done in
+    let e = append-length d 0 (field step-word head) (omega arith) done in
     omega arith
 
 -- the whole lines are shorter than 2048 bytes
@@ -173,13 +173,13 @@ pair-length before a between b h p q =
       spaced-length b q,
     )
 
-pub rung-length : (head rule first second set : ℕ) → head < 2 ^ 32 → first < 2 ^ 32 → second < 2 ^ 32
-    → length (rungLine head rule first second set) ≤ 2048
-rung-length head rule first second set h p q =
+pub step-length : (head rule first second set : ℕ) → head < 2 ^ 32 → first < 2 ^ 32 → second < 2 ^ 32
+    → length (stepLine head rule first second set) ≤ 2048
+step-length head rule first second set h p q =
     omega (
       arith,
-      length-append (field rung-word head ++ ruleText rule first second set) newline,
-      length-append (field rung-word head) (ruleText rule first second set),
+      length-append (field step-word head ++ ruleText rule first second set) newline,
+      length-append (field step-word head) (ruleText rule first second set),
       spaced-length head h,
       rule-length first second set rule p q,
     )

@@ -22,7 +22,7 @@ pub record Good (s : List ℕ) : Type 0 where
   pub lettered : take 4 s ≡ letters
   pub some : 1 ≤ countOf s
   pub few : countOf s ≤ 256
-  pub heard : traceLength s ≤ 256
+  pub trace : traceLength s ≤ 256
   pub goal : goalOf s < countOf s
   pub lists : recordsFrom s ≤ length s
   pub filled : (i : ℕ) → i < countOf s → 0 < lengthAt s i
@@ -130,7 +130,7 @@ module _ (s : List ℕ) (ok : refusal s ≡ 0) where
         lettered = equal-true (take 4 s) letters (not-false _ (or-false-right (ltb 34444 (length s)) _ (or-false-right (ltb (length s) 10) _ test1)));
         some = n1;
         few = ltb-false 256 (countOf s) (or-false-left (ltb 256 (countOf s)) _ test2′);
-        heard = ltb-false 256 (traceLength s) (or-false-left (ltb 256 (traceLength s)) _ test2″);
+        trace = ltb-false 256 (traceLength s) (or-false-left (ltb 256 (traceLength s)) _ test2″);
         goal = leb-false (countOf s) (goalOf s) (or-false-right (ltb 256 (traceLength s)) _ test2″);
         lists = lists-fit;
         filled = (λ i h. pos (lengthAt s i) (eqb-false (lengthAt s i) 0 (or-false-left (eqb (lengthAt s i) 0) _ (pair-test i h))));

@@ -22,8 +22,9 @@ use Rattle.knowledge.proofs.Laws.Store.{same-refl, same-trans, same-wider}
 use Rattle.knowledge.proofs.Laws.Learn.{learn-len}
 use Rattle.derive.specs.Bytes.{stepBytes, stepsBytes}
 use Rattle.derive.specs.Machine.{Ended, stepNext, follow, machine}
-use Rattle.derive.specs.Ran.{verdictOf, Ready, endOf, Ran}
+use Rattle.derive.specs.Ran.{verdictOf, endAs, Ready, endOf, Ran}
 use Rattle.derive.specs.declared.run.Verdict.{Verdict}
+use Rattle.derive.specs.declared.run.Ended as program
 use Rattle.derive.proofs.Laws.Machine.{prepend, prepend-more, prepend-verdict, prepend-steps, prepend-final, endedAs, machine-step}
 use Rattle.derive.proofs.Laws.Buffer.{written-more}
 
@@ -59,9 +60,9 @@ along-start s keys sets reps known rows len remainders budget out r =
 module _ {s have₀ rows₀ : List ℕ} {used₀ : ℕ} {remainders₀ : List (List ℕ)} {budget : ℕ} {out₀ have rows : List ℕ} {used : ℕ} {remainders : List (List ℕ)} {made : ℕ} {out : List ℕ}
     (a : Along s have₀ rows₀ used₀ remainders₀ budget out₀ have rows used remainders made out) where
   -- the rest of the run is no step: the run ends here
-  pub along-end : (v : Verdict) → machine (entryAt s) (countOf s) (goalOf s) (budget - made) (stateOf have rows used) ≡ endedAs (entryAt s) (countOf s) (goalOf s) (stateOf have rows used) (verdictOf v)
+  along-ended : (v : Verdict) → machine (entryAt s) (countOf s) (goalOf s) (budget - made) (stateOf have rows used) ≡ endedAs (entryAt s) (countOf s) (goalOf s) (stateOf have rows used) (verdictOf v)
       → Ran s have₀ rows₀ used₀ remainders₀ budget out₀ (record { verdict = v; made = made; known = have; len = used }) rows remainders out
-  along-end v p =
+  along-ended v p =
       let e : endOf s budget have₀ rows₀ used₀ ≡ prepend (a .done) (endedAs (entryAt s) (countOf s) (goalOf s) (stateOf have rows used) (verdictOf v)) = a .rest ∙ ap (prepend (a .done)) p in
       let steps : endOf s budget have₀ rows₀ used₀ .steps ≡ a .done = ap (λ (o : Ended). o .steps) e ∙ prepend-steps (a .done) (endedAs (entryAt s) (countOf s) (goalOf s) (stateOf have rows used) (verdictOf v)) ∙ append-nil (a .done) in
       record {
@@ -74,6 +75,10 @@ module _ {s have₀ rows₀ : List ℕ} {used₀ : ℕ} {remainders₀ : List (L
         cache = a .cache;
         others = a .others;
       }
+
+  pub along-end : {e : program.Ended} (v : Verdict) → e ≡ endAs v made have used → machine (entryAt s) (countOf s) (goalOf s) (budget - made) (stateOf have rows used) ≡ endedAs (entryAt s) (countOf s) (goalOf s) (stateOf have rows used) (verdictOf v)
+      → Ran s have₀ rows₀ used₀ remainders₀ budget out₀ e rows remainders out
+  along-end v q p = subst (λ (r : program.Ended). Ran s have₀ rows₀ used₀ remainders₀ budget out₀ r rows remainders out) (sym q) (along-ended v p)
 
   -- a step is made
   pub along-step : made < budget → 32 ≤ length out₀ → theory.reached (entryAt s) (goalOf s) (stateOf have rows used) ≡ false → (x : ℕ)

@@ -24,16 +24,16 @@ unfolding startOf listed
 start-more s k = ap (λ (n : ℕ). map (repAt (entryAt s)) (listed (traceAt s) n)) (add-one k) ∙ map-append (repAt (entryAt s)) (listed (traceAt s) k) (traceAt s k ∷ [])
 
 -- before the first message nothing is known
-pub heard-none : (s known rows : List ℕ) → value known ≡ 0 → stateOf known rows 0 ≡ knowledge (entryAt s) (startOf s 0)
+pub hear-none : (s known rows : List ℕ) → value known ≡ 0 → stateOf known rows 0 ≡ knowledge (entryAt s) (startOf s 0)
 unfolding knowledge learnAll nothing startOf listed rowsOf
-heard-none s known rows p = λ i. record { known = p i; rows = [] }
+hear-none s known rows p = λ i. record { known = p i; rows = [] }
 
 -- one message more
-pub heard-more : (s : List ℕ) (k : ℕ) (known rows : List ℕ) (len h v : ℕ) (more rows′ : List ℕ) (len′ : ℕ) → stateOf known rows len ≡ knowledge (entryAt s) (startOf s k)
+pub hear-more : (s : List ℕ) (k : ℕ) (known rows : List ℕ) (len h v : ℕ) (more rows′ : List ℕ) (len′ : ℕ) → stateOf known rows len ≡ knowledge (entryAt s) (startOf s k)
     → h ≡ repAt (entryAt s) (traceAt s k) → v ≡ setAt (entryAt s) h → stateOf more rows′ len′ ≡ learnAs (stateOf known rows len) h v
     → stateOf more rows′ len′ ≡ knowledge (entryAt s) (startOf s (k + 1))
 unfolding knowledge
-heard-more s k known rows len h v more rows′ len′ before head set after =
+hear-more s k known rows len h v more rows′ len′ before head set after =
     after ∙ ap₂ (λ (j : Knowledge) (x : ℕ). learnAs j h x) before set ∙ ap (learn (setAt (entryAt s)) (knowledge (entryAt s) (startOf s k))) head
     ∙ sym (learnAll-more (setAt (entryAt s)) nothing (startOf s k) (repAt (entryAt s) (traceAt s k))) ∙ ap (knowledge (entryAt s)) (sym (start-more s k))
 
@@ -42,14 +42,14 @@ module _ {s : List ℕ} {cut : ℕ} {sets : List (List ℕ)} {reps rows : List �
   listed-below : traceAt s k < countOf s
   listed-below = good s (r .good) .listed k (le-trans h (r .within))
 
-  pub heard-head : {i : ℕ} → i ≡ traceAt s k → getD reps i 0 ≡ repAt (entryAt s) (traceAt s k)
-  heard-head p = ap (λ (j : ℕ). getD reps j 0) p ∙ r .rep (traceAt s k) listed-below
+  pub hear-head : {i : ℕ} → i ≡ traceAt s k → getD reps i 0 ≡ repAt (entryAt s) (traceAt s k)
+  hear-head p = ap (λ (j : ℕ). getD reps j 0) p ∙ r .rep (traceAt s k) listed-below
 
-  pub heard-trace : {i : ℕ} → i ≡ traceAt s k → i < 256
-  heard-trace p = lt-of-lt-of-le (lt-of-le-of-lt (le-of-eq p) listed-below) (good s (r .good) .few)
+  pub hear-trace : {i : ℕ} → i ≡ traceAt s k → i < 256
+  hear-trace p = lt-of-lt-of-le (lt-of-le-of-lt (le-of-eq p) listed-below) (good s (r .good) .few)
 
-  pub heard-low : {i : ℕ} → i ≡ traceAt s k → getD reps i 0 < countOf s
-  heard-low p = lt-of-le-of-lt (le-of-eq (heard-head p)) (lt-of-le-of-lt (rep-le (entryAt s) (traceAt s k)) listed-below)
+  pub hear-low : {i : ℕ} → i ≡ traceAt s k → getD reps i 0 < countOf s
+  hear-low p = lt-of-le-of-lt (le-of-eq (hear-head p)) (lt-of-le-of-lt (rep-le (entryAt s) (traceAt s k)) listed-below)
 
-  pub heard-small : {i : ℕ} → i ≡ traceAt s k → getD reps i 0 < 256
-  heard-small p = lt-of-lt-of-le (heard-low p) (good s (r .good) .few)
+  pub hear-small : {i : ℕ} → i ≡ traceAt s k → getD reps i 0 < 256
+  hear-small p = lt-of-lt-of-le (hear-low p) (good s (r .good) .few)

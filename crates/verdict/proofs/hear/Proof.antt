@@ -18,7 +18,7 @@ use Rattle.deduction.specs.Run.{knowledge}
 use Rattle.knowledge.specs.Rows.{Remainders}
 use Rattle.knowledge.specs.State.{stateOf, Room}
 use Rattle.knowledge.proofs.Laws.Cache.{remainders-first}
-use Rattle.verdict.proofs.Laws.Hearing.{heard-none, heard-more, heard-head, heard-trace, heard-low, heard-small}
+use Rattle.verdict.proofs.Laws.Hearing.{hear-none, hear-more, hear-head, hear-trace, hear-low, hear-small}
 use Rattle.verdict.proofs.hear.Statement.{statement}
 use Rattle.verdict.proofs.hear.Tie as tie
 
@@ -33,7 +33,7 @@ abbrev μ-loop : tie.MeasureT-loop
 
 -- a head fits a byte
 small : (c : tie.After-trace-at Inv-loop μ-loop) → getD (now (c .before .before .before .before .before .before .args .reps)) (c .trace-at .result) 0 < 256
-small c = heard-small (c .before .before .loop .inv .2) (c .before .before .loop .k) (c .before .loop-test .taken) (c .trace-at .ensures)
+small c = hear-small (c .before .before .loop .inv .2) (c .before .before .loop .k) (c .before .loop-test .taken) (c .trace-at .ensures)
 
 few : (c : tie.At-loop Inv-loop μ-loop) → c .before .before .count .result ≤ 256
 few c = le-trans (le-of-eq (c .loop .inv .0)) (good (now (c .before .before .before .before .args .s)) (c .loop .inv .2 .good) .few)
@@ -56,7 +56,7 @@ loop-holds c = let s = c .before .before .before in
       c .before .count .ensures,
       search needs,
       r,
-      heard-none (now (s .args .s)) (c .empty .result) (now (s .args .rows)) (c .empty .ensures),
+      hear-none (now (s .args .s)) (c .empty .result) (now (s .args .rows)) (c .empty .ensures),
       search needs,
       r .words,
       r .lines,
@@ -70,7 +70,7 @@ cast-e : tie.Need-cast-e Inv-loop μ-loop
 cast-e c = search needs
 
 element-copy-out-e : tie.Need-element-copy-out-e Inv-loop μ-loop
-element-copy-out-e c = heard-trace (c .before .before .loop .inv .2) (c .before .before .loop .k) (c .before .loop-test .taken) (c .trace-at .ensures)
+element-copy-out-e c = hear-trace (c .before .before .loop .inv .2) (c .before .before .loop .k) (c .before .loop-test .taken) (c .trace-at .ensures)
 
 cast-gain : tie.Need-cast-gain Inv-loop μ-loop
 cast-gain c = omega (arith, small (c .before .before .before))
@@ -100,7 +100,7 @@ loop-again c = let a = c .before .before .before .before .before .before .before
       c .before .before .before .before .before .before .before .before .before .before .count .ensures,
       omega (arith, t),
       h,
-      heard-more (now (s .args .s)) (a .loop .k) (a .loop .known) (a .loop .rows) (a .loop .len) _ _ (m .result .known) (m .last .1 .0) (m .result .len) (a .loop .inv .3) (heard-head h (a .loop .k) t q) (h .set _ (heard-low h (a .loop .k) t q)) (m .ensures .0),
+      hear-more (now (s .args .s)) (a .loop .k) (a .loop .known) (a .loop .rows) (a .loop .len) _ _ (m .result .known) (m .last .1 .0) (m .result .len) (a .loop .inv .3) (hear-head h (a .loop .k) t q) (h .set _ (hear-low h (a .loop .k) t q)) (m .ensures .0),
       m .ensures .1 .0,
       m .ensures .1 .1 .0 .size ∙ a .loop .inv .5,
       m .ensures .1 .1 .1 .1 .size ∙ a .loop .inv .6,

@@ -20,10 +20,10 @@ fine c = sym (c .before .before .refused .ensures) ∙ sym (c .before .code .ens
 unfit : (c : tie.Then1) → refusalOf (now (c .before .before .before .before .before .args .sheet)) (c .before .before .before .before .before .args .cut) (c .before .before .before .before .before .args .budget) (length (now (c .before .before .before .before .before .args .out))) ≡ 0 → ⊥
 unfit c z = c .if1 .taken (c .before .code .ensures ∙ c .before .before .refused .ensures ∙ z)
 
-heard-few : (c : tie.Else1) → traceLength (now (c .before .before .before .before .before .args .sheet)) ≤ 256
-heard-few c =
+hear-few : (c : tie.Else1) → traceLength (now (c .before .before .before .before .before .args .sheet)) ≤ 256
+hear-few c =
     let s = c .before .before .before .before .before .args in
-    good (now (s .sheet)) (ok-sheet (now (s .sheet)) (s .cut) (s .budget) (length (now (s .out))) (fine c)) .heard
+    good (now (s .sheet)) (ok-sheet (now (s .sheet)) (s .cut) (s .budget) (length (now (s .out))) (fine c)) .trace
 
 told : (c : tie.After-enum-told) → c .before .before .before .before .decide .result .verdict ≡ Derivable
 told c = c .enum-told .given .1
@@ -46,7 +46,7 @@ returns c = let s = c .before .before .before .before .before .args in
     (c .before .before .refused .ensures ∙ refused-answer (now (s .sheet)) (s .cut) (s .budget) (length (now (s .out))) some, (refused-buffer (now (s .sheet)) (s .cut) (s .budget) (now (s .out)) some, λ p. absurd (some p)))
 
 cast-decide : tie.Need-cast-decide
-cast-decide c = omega (arith, ok-cut (now (c .before .before .before .before .before .args .sheet)) (c .before .before .before .before .before .args .cut) (c .before .before .before .before .before .args .budget) (length (now (c .before .before .before .before .before .args .out))) (fine c), heard-few c)
+cast-decide c = omega (arith, ok-cut (now (c .before .before .before .before .before .args .sheet)) (c .before .before .before .before .before .args .cut) (c .before .before .before .before .before .args .budget) (length (now (c .before .before .before .before .before .args .out))) (fine c), hear-few c)
 
 cast-decide-2 : tie.Need-cast-decide-2
 cast-decide-2 c = omega (arith, ok-budget (now (c .before .before .before .before .before .args .sheet)) (c .before .before .before .before .before .args .cut) (c .before .before .before .before .before .args .budget) (length (now (c .before .before .before .before .before .args .out))) (fine c))

@@ -120,26 +120,35 @@ loop-holds c = let s = c .before .before .before .before .before in (
 member-requires : tie.Need-member-requires Inv-loop μ-loop
 member-requires c κs = search needs
 
+end-as-requires : tie.Need-end-as-requires Inv-loop μ-loop
+end-as-requires c κs = search needs
+
 same-length : tie.Need-same-length Inv-loop μ-loop
-same-length c = kept (c .before .before)
+same-length c = kept (c .before .before .before)
 
 returns : tie.Need-returns Inv-loop μ-loop
-returns c = along-end (c .before .before .loop .inv .3) Derivable (machine-derivable (entryAt (now (c .before .before .before .before .before .before .before .before .args .s))) (countOf (now (c .before .before .before .before .before .before .before .before .args .s))) (goalOf (now (c .before .before .before .before .before .before .before .before .args .s))) (stateOf (c .before .before .loop .have) (c .before .before .loop .rows) (c .before .before .loop .used)) (c .before .before .before .before .before .before .before .before .args .budget - c .before .before .loop .made) (tested (c .before) ∙ c .if1 .taken))
+returns c = along-end (c .before .before .before .loop .inv .3) Derivable (c .end-as .ensures) (machine-derivable (entryAt (now (c .before .before .before .before .before .before .before .before .before .args .s))) (countOf (now (c .before .before .before .before .before .before .before .before .before .args .s))) (goalOf (now (c .before .before .before .before .before .before .before .before .before .args .s))) (stateOf (c .before .before .before .loop .have) (c .before .before .before .loop .rows) (c .before .before .before .loop .used)) (c .before .before .before .before .before .before .before .before .before .args .budget - c .before .before .before .loop .made) (tested (c .before .before) ∙ c .before .if1 .taken))
 
 next-requires : tie.Need-next-requires Inv-loop μ-loop
 next-requires c κs = few (c .before .before .before)
 
+end-as-requires-2 : tie.Need-end-as-requires-2 Inv-loop μ-loop
+end-as-requires-2 c κs = search needs
+
 same-length-2 : tie.Need-same-length-2 Inv-loop μ-loop
-same-length-2 c = kept (c .before .before .before .before .before)
+same-length-2 c = kept (c .before .before .before .before .before .before)
 
 returns-2 : tie.Need-returns-2 Inv-loop μ-loop
-returns-2 c = along-end (c .before .before .before .before .before .loop .inv .3) Underivable (machine-underivable (entryAt (now (c .before .before .before .before .before .before .before .before .before .before .before .args .s))) (countOf (now (c .before .before .before .before .before .before .before .before .before .before .before .args .s))) (goalOf (now (c .before .before .before .before .before .before .before .before .before .before .before .args .s))) (stateOf (c .before .before .before .before .before .loop .have) (c .before .before .before .before .before .loop .rows) (c .before .before .before .before .before .loop .used)) (c .before .before .before .before .before .before .before .before .before .before .before .args .budget - c .before .before .before .before .before .loop .made) (tested (c .before .before .before .before) ∙ c .before .before .before .if1 .left) (sym (found (c .before)) ∙ c .if2 .taken))
+returns-2 c = along-end (c .before .before .before .before .before .before .loop .inv .3) Underivable (c .end-as2 .ensures) (machine-underivable (entryAt (now (c .before .before .before .before .before .before .before .before .before .before .before .before .args .s))) (countOf (now (c .before .before .before .before .before .before .before .before .before .before .before .before .args .s))) (goalOf (now (c .before .before .before .before .before .before .before .before .before .before .before .before .args .s))) (stateOf (c .before .before .before .before .before .before .loop .have) (c .before .before .before .before .before .before .loop .rows) (c .before .before .before .before .before .before .loop .used)) (c .before .before .before .before .before .before .before .before .before .before .before .before .args .budget - c .before .before .before .before .before .before .loop .made) (tested (c .before .before .before .before .before) ∙ c .before .before .before .before .if1 .left) (sym (found (c .before .before)) ∙ c .before .if2 .taken))
+
+end-as-requires-3 : tie.Need-end-as-requires-3 Inv-loop μ-loop
+end-as-requires-3 c κs = search needs
 
 same-length-3 : tie.Need-same-length-3 Inv-loop μ-loop
-same-length-3 c = kept (c .before .before .before .before .before .before)
+same-length-3 c = kept (c .before .before .before .before .before .before .before)
 
 returns-3 : tie.Need-returns-3 Inv-loop μ-loop
-returns-3 c = along-end (c .before .before .before .before .before .before .loop .inv .3) Exhausted (ap (λ (b : ℕ). machine (entryAt (now (c .before .before .before .before .before .before .before .before .before .before .before .before .args .s))) (countOf (now (c .before .before .before .before .before .before .before .before .before .before .before .before .args .s))) (goalOf (now (c .before .before .before .before .before .before .before .before .before .before .before .before .args .s))) b (stateOf (c .before .before .before .before .before .before .loop .have) (c .before .before .before .before .before .before .loop .rows) (c .before .before .before .before .before .before .loop .used))) (spent c) ∙ machine-exhausted (entryAt (now (c .before .before .before .before .before .before .before .before .before .before .before .before .args .s))) (countOf (now (c .before .before .before .before .before .before .before .before .before .before .before .before .args .s))) (goalOf (now (c .before .before .before .before .before .before .before .before .before .before .before .before .args .s))) (stateOf (c .before .before .before .before .before .before .loop .have) (c .before .before .before .before .before .before .loop .rows) (c .before .before .before .before .before .before .loop .used)) (tested (c .before .before .before .before .before) ∙ c .before .before .before .before .if1 .left) (λ z. c .before .if2 .left (found (c .before .before) ∙ z)))
+returns-3 c = along-end (c .before .before .before .before .before .before .before .loop .inv .3) Exhausted (c .end-as3 .ensures) (ap (λ (b : ℕ). machine (entryAt (now (c .before .before .before .before .before .before .before .before .before .before .before .before .before .args .s))) (countOf (now (c .before .before .before .before .before .before .before .before .before .before .before .before .before .args .s))) (goalOf (now (c .before .before .before .before .before .before .before .before .before .before .before .before .before .args .s))) b (stateOf (c .before .before .before .before .before .before .before .loop .have) (c .before .before .before .before .before .before .before .loop .rows) (c .before .before .before .before .before .before .before .loop .used))) (spent (c .before)) ∙ machine-exhausted (entryAt (now (c .before .before .before .before .before .before .before .before .before .before .before .before .before .args .s))) (countOf (now (c .before .before .before .before .before .before .before .before .before .before .before .before .before .args .s))) (goalOf (now (c .before .before .before .before .before .before .before .before .before .before .before .before .before .args .s))) (stateOf (c .before .before .before .before .before .before .before .loop .have) (c .before .before .before .before .before .before .before .loop .rows) (c .before .before .before .before .before .before .before .loop .used)) (tested (c .before .before .before .before .before .before) ∙ c .before .before .before .before .before .if1 .left) (λ z. c .before .before .if2 .left (found (c .before .before .before) ∙ z)))
 
 cast-from : tie.Need-cast-from Inv-loop μ-loop
 cast-from c = search needs
@@ -207,11 +216,14 @@ run-spec =
     element-copy-out-goal
     loop-holds
     member-requires
+    end-as-requires
     same-length
     returns
     next-requires
+    end-as-requires-2
     same-length-2
     returns-2
+    end-as-requires-3
     same-length-3
     returns-3
     cast-from

@@ -1,9 +1,9 @@
--- `zuwendryk::print_rungs` ends: i counts up to n.
+-- `zuwendryk::print_steps` ends: i counts up to n.
 use Prim.Native.Nat.{_-_, _≤_}
 use native.Mathlib.Omega.{arith}
 use borrow.Author.Needs.{needs}
-use Rattle.zuwendryk.proofs.print_rungs.Statement.{statement}
-use Rattle.zuwendryk.proofs.print_rungs.Tie as tie
+use Rattle.zuwendryk.proofs.print_steps.Statement.{statement}
+use Rattle.zuwendryk.proofs.print_steps.Tie as tie
 
 abbrev Inv-loop : tie.InvT-loop
 Inv-loop buffer n i₀ i =
@@ -16,11 +16,11 @@ abbrev μ-loop : tie.MeasureT-loop
 loop-holds : tie.Need-loop-holds Inv-loop μ-loop
 loop-holds c = search needs
 
-rung-at-requires : tie.Need-rung-at-requires Inv-loop μ-loop
-rung-at-requires c κs = search needs
+step-at-requires : tie.Need-step-at-requires Inv-loop μ-loop
+step-at-requires c κs = search needs
 
-print-rung-requires : tie.Need-print-rung-requires Inv-loop μ-loop
-print-rung-requires c κs = search needs
+print-step-requires : tie.Need-print-step-requires Inv-loop μ-loop
+print-step-requires c κs = search needs
 
 add-i : tie.Need-add-i Inv-loop μ-loop
 add-i c = search needs
@@ -34,15 +34,15 @@ loop-again c = search needs
 returns : tie.Need-returns Inv-loop μ-loop
 returns c = search needs
 
-pub print-rungs-spec : {M : Type 1} → statement M
-print-rungs-spec =
+pub print-steps-spec : {M : Type 1} → statement M
+print-steps-spec =
     tie.close
     (tie.spec
     Inv-loop
     μ-loop
     loop-holds
-    rung-at-requires
-    print-rung-requires
+    step-at-requires
+    print-step-requires
     add-i
     loop-less
     loop-again
