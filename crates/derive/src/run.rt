@@ -13,7 +13,7 @@ ghost use Rattle.derive.specs.Ran.{endAs, Ready, Ran};
 use crate::next;
 use crate::writer;
 use dag::sheet;
-use knowledge::Learnt;
+use knowledge::Knowledge;
 
 // How a run ends.
 pub enum Verdict {
@@ -53,7 +53,7 @@ fn make(
     remainders: &mut [[u64; 4]; 256],
     n: usize,
     out: &mut [u8],
-) -> Learnt
+) -> Knowledge
     requires { ⌜ (length (now rows) ≡ 2048) × (length (now remainders) ≡ 256) × (n ≤ 256) × (len ≤ 256) × Room known len × (40 ≤ length (now out)) ⌝ }
     ensures bytes { λ _. ⌜ now (out .exit) ≡ stepBytes (stepIn (now (keys .entry)) (now (sets .entry)) (rowsOf (now (rows .entry)) len) x) ++ drop 40 (now (out .entry)) ⌝ }
     ensures state { λ r. ⌜ stateOf (r .known) (now (rows .exit)) (r .len) ≡ learnAs (stateOf known (now (rows .entry)) len) (x / 65536 % 256) (value (getD (now (sets .entry)) (x / 65536 % 256) [])) ⌝ }

@@ -1,19 +1,15 @@
 -- The state in memory, read as that of Elimination.antt of `deduction`.
--- Defined: `stateOf` the state's parts; `knowledgeOf` a value of the struct; `reducedOf` what a sum test hands back; `Room`.
+-- Defined: `stateOf` the state's parts; `reducedOf` what a sum test hands back; `Room`.
 use Prim.Native.Nat.{ℕ, _≤_}
 use mathlib.Core.List.{List}
 use lib.Count.{ones}
 use Rattle.bitset.specs.Words.{value}
 use Rattle.deduction.specs.Elimination as elimination
 use Rattle.knowledge.specs.Rows.{rowsOf}
-use Rattle.knowledge.specs.declared.Knowledge.{Knowledge}
 
 -- the known set's words, the rows' words and the number of rows
 abbrev pub stateOf : List ℕ → List ℕ → ℕ → elimination.Knowledge
 stateOf known rows len = record { known = value known; rows = rowsOf rows len }
-
-abbrev pub knowledgeOf : Knowledge → elimination.Knowledge
-knowledgeOf k = stateOf (k .known) (k .rows) (k .len)
 
 -- the remainder's words and the used set's
 abbrev pub reducedOf : List ℕ → List ℕ → elimination.Reduced

@@ -5,18 +5,17 @@ ghost use Prim.Native.Nat.{ℕ, _+_, _*_, _≤_, _<_};
 ghost use mathlib.Core.Bool.{cond};
 ghost use mathlib.Core.List.{[]};
 ghost use lib.Bits.{bitXor};
-ghost use lib.ListN.{length, getD, replicate};
+ghost use lib.ListN.{length, getD};
 ghost use Rattle.bitset.specs.Set.{member};
 ghost use Rattle.bitset.specs.Words.{value};
-ghost use Rattle.deduction.specs.Elimination.{reduce, learnAs, nothing, take-off};
+ghost use Rattle.deduction.specs.Elimination.{reduce, learnAs, take-off};
 ghost use Rattle.knowledge.specs.Rows.{wordsAt, rowAt, rowsOf, withoutRow, SameOutside, Remainders};
-ghost use Rattle.knowledge.specs.State.{stateOf, knowledgeOf, reducedOf, Room};
+ghost use Rattle.knowledge.specs.State.{stateOf, reducedOf, Room};
 
-// What the intruder knows: the known representatives, and the basis rows in the order learnt.
-// Row i is the eight words from 8 * i on: four of its vector, four of the learnt entries whose sum it is.
+// What the intruder knows: the known representatives, and the number of basis rows, in the order learnt. The rows stand in a lent array,
+// so that a state is small: row i is the eight words from 8 * i on, four of its vector, four of the learnt entries whose sum it is.
 pub struct Knowledge {
     pub known: [u64; 4],
-    pub rows: [u64; 2048],
     pub len: usize,
 }
 
@@ -24,12 +23,6 @@ pub struct Knowledge {
 pub struct Reduced {
     pub remainder: [u64; 4],
     pub used: [u64; 4],
-}
-
-// What learning leaves beside the rows: the known representatives and the number of rows.
-pub struct Learnt {
-    pub known: [u64; 4],
-    pub len: usize,
 }
 
 // The four words from at on.
@@ -114,61 +107,32 @@ fn push(rows: &mut [u64; 2048], at: usize, vector: [u64; 4], uses: [u64; 4])
     put(rows, 8 * at + 4, uses);
 }
 
-// Learns the representative e, whose set is set, in a state taken apart. A known one changes nothing.
-// A new one joins the known set, and what the rows leave of its set, if anything, becomes a row.
-pub fn learn(known: [u64; 4], rows: &mut [u64; 2048], len: usize, e: u8, set: [u64; 4]) -> Learnt
-    requires { ⌜ (length (now rows) ≡ 2048) × Room known len ⌝ }
-    ensures state { λ r. ⌜ stateOf (r .known) (now (rows .exit)) (r .len) ≡ learnAs (stateOf known (now (rows .entry)) len) e (value set) ⌝ }
-    ensures room { λ r. ⌜ Room (r .known) (r .len) ⌝ }
-    ensures kept { λ r. ⌜ SameOutside (8 * len) (8 * r .len) (now (rows .entry)) (now (rows .exit)) ⌝ }
-{
-    if bitset::member(known, e) {
-        return Learnt { known, len };
-    }
-    let more = bitset::insert(known, e);
-    let x = reduce(rows, len, set);
-    let remainder = x.remainder;
-    if bitset::is_empty(remainder) {
-        return Learnt { known: more, len };
-    }
-    let used = x.used;
-    let own = bitset::singleton(e);
-    let uses = bitset::sum(used, own);
-    let next = len + 1;
-    push(rows, len, remainder, uses);
-    Learnt {
-        known: more,
-        len: next,
-    }
-}
-
 impl Knowledge {
-    // Nothing known.
-    pub fn new() -> Self
-        ensures state { λ r. ⌜ knowledgeOf r ≡ nothing ⌝ }
-        ensures words { λ r. ⌜ r .rows ≡ replicate 2048 0 ⌝ }
+    // "Hearing a term takes the listener's state and hands the enlarged one back": learns the representative e, whose set is set.
+    // A known one changes nothing. A new one joins the known set, and what the rows leave of its set, if anything, becomes a row.
+    pub fn hear(mut self, rows: &mut [u64; 2048], e: u8, set: [u64; 4]) -> Self
+        requires { ⌜ (length (now rows) ≡ 2048) × Room (self .known) (self .len) ⌝ }
+        ensures state { λ r. ⌜ stateOf (r .known) (now (rows .exit)) (r .len) ≡ learnAs (stateOf (self .known) (now (rows .entry)) (self .len)) e (value set) ⌝ }
         ensures room { λ r. ⌜ Room (r .known) (r .len) ⌝ }
-    {
-        Knowledge {
-            known: bitset::empty(),
-            rows: [0; 2048],
-            len: 0,
-        }
-    }
-
-    // "Hearing a term takes the listener's state and hands the enlarged one back": `learn` over the whole state.
-    pub fn hear(mut self, e: u8, set: [u64; 4]) -> Self
-        requires { ⌜ Room (self .known) (self .len) ⌝ }
-        ensures state { λ r. ⌜ knowledgeOf r ≡ learnAs (knowledgeOf self) e (value set) ⌝ }
-        ensures room { λ r. ⌜ Room (r .known) (r .len) ⌝ }
-        ensures kept { λ r. ⌜ SameOutside (8 * self .len) (8 * r .len) (self .rows) (r .rows) ⌝ }
+        ensures kept { λ r. ⌜ SameOutside (8 * self .len) (8 * r .len) (now (rows .entry)) (now (rows .exit)) ⌝ }
     {
         let known = self.known;
         let len = self.len;
-        let learnt = learn(known, &mut self.rows, len, e, set);
-        let more = learnt.known;
+        if bitset::member(known, e) {
+            return self;
+        }
+        let more = bitset::insert(known, e);
         self.known = more;
-        self.len = learnt.len;
+        let x = reduce(rows, len, set);
+        let remainder = x.remainder;
+        if bitset::is_empty(remainder) {
+            return self;
+        }
+        let used = x.used;
+        let own = bitset::singleton(e);
+        let uses = bitset::sum(used, own);
+        self.len = len + 1;
+        push(rows, len, remainder, uses);
         self
     }
 }
@@ -209,7 +173,7 @@ pub fn gain(
     n: usize,
     e: u8,
     set: [u64; 4],
-) -> Learnt
+) -> Knowledge
     requires { ⌜ (length (now rows) ≡ 2048) × (length (now remainders) ≡ 256) × (n ≤ 256) × Room known len ⌝ }
     ensures state { λ r. ⌜ stateOf (r .known) (now (rows .exit)) (r .len) ≡ learnAs (stateOf known (now (rows .entry)) len) e (value set) ⌝ }
     ensures room { λ r. ⌜ Room (r .known) (r .len) ⌝ }
@@ -217,7 +181,8 @@ pub fn gain(
     ensures cache { λ r. ⌜ ((s : ℕ → ℕ) → Remainders s n (now (rows .entry)) len (now (remainders .entry)) → Remainders s n (now (rows .exit)) (r .len) (now (remainders .exit))) ⌝ }
     ensures others { λ _. ⌜ SameOutside 0 n (now (remainders .entry)) (now (remainders .exit)) ⌝ }
 {
-    let learnt = learn(known, rows, len, e, set);
+    let before = Knowledge { known, len };
+    let learnt = before.hear(rows, e, set);
     if learnt.len != len {
         sweep(remainders, n, rows, len);
     }

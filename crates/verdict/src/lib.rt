@@ -23,7 +23,7 @@ use dag::Refusal;
 use dag::sheet;
 use derive::run::Ended;
 use derive::run::Verdict;
-use knowledge::Learnt;
+use knowledge::Knowledge;
 
 // The answer: refused, or the verdict with the number of steps made (document 01: reached, out of reach, stopped).
 pub enum Answer {
@@ -41,7 +41,7 @@ fn hear(
     reps: &[u8; 256],
     rows: &mut [u64; 2048],
     remainders: &mut [[u64; 4]; 256],
-) -> Learnt
+) -> Knowledge
     requires { ⌜ Heard (now s) cut (now sets) (now reps) (now rows) (now remainders) ⌝ }
     ensures state { λ r. ⌜ stateOf (r .known) (now (rows .exit)) (r .len) ≡ knowledge (entryAt (now (s .entry))) (startOf (now (s .entry)) cut) ⌝ }
     ensures room { λ r. ⌜ Room (r .known) (r .len) ⌝ }
@@ -60,7 +60,7 @@ fn hear(
         len = learnt.len;
         k += 1;
     }
-    Learnt { known, len }
+    Knowledge { known, len }
 }
 
 // The verdict on a good sheet, with the steps and the known set written to out.

@@ -19,45 +19,45 @@ use Rattle.knowledge.proofs.gain.Statement.{statement}
 use Rattle.knowledge.proofs.gain.Tie as tie
 
 -- one row more
-grown : (c : tie.Then1) → c .before .before .learn .result .len ≡ c .before .before .before .before .args .len + 1
+grown : (c : tie.Then1) → c .before .before .hear .result .len ≡ c .before .before .before .before .args .len + 1
 grown c =
     let m = c .before .before in
     let s = m .before .before in
-    let r = m .learn .result in
+    let r = m .hear .result in
     ⊎-elim (λ p. absurd (c .if1 .taken p)) (λ p. p)
-    (learn-len (s .args .known) (now (s .args .rows)) (s .args .len) (s .args .e) (value (s .args .set)) (r .known) (m .learn .last .1 .0) (r .len) (m .learn .ensures .0))
+    (learn-len (s .args .known) (now (s .args .rows)) (s .args .len) (s .args .e) (value (s .args .set)) (r .known) (m .hear .last .1 .0) (r .len) (m .hear .ensures .0))
 
 -- the new row's place
 place : (c : tie.Then1) → c .before .before .before .before .args .len < 256
 place c =
     let m = c .before .before in
-    let r = m .learn .result in
+    let r = m .hear .result in
     let few = ones-words (r .known) (search needs) (λ i. let f : Fits w64 (getD (r .known) i 0) = search needs in f .fits) in
-    omega (arith, grown c, few, m .learn .ensures .1 .0)
+    omega (arith, grown c, few, m .hear .ensures .1 .0)
 
-learn-requires : tie.Need-learn-requires
-learn-requires c κs = search needs
+hear-requires : tie.Need-hear-requires
+hear-requires c κs = search needs
 
 sweep-requires : tie.Need-sweep-requires
 sweep-requires c κs = let m = c .before .before .before .before in
     let s = m .before .before in
-    (s .pre .1, s .pre .2, m .learn .ensures .1 .1 .size ∙ s .pre .0, place (c .before .before))
+    (s .pre .1, s .pre .2, m .hear .ensures .1 .1 .size ∙ s .pre .0, place (c .before .before))
 
 returns : tie.Need-returns
 returns c = let m = c .before .before .before .before .before in
     let s = m .before .before .args in
-    let ws = m .learn .last .1 .0 in
+    let ws = m .hear .last .1 .0 in
     let rs = now (s .remainders) in (
-      m .learn .ensures .0,
+      m .hear .ensures .0,
       (
-        m .learn .ensures .1 .0,
+        m .hear .ensures .1 .0,
         (
-          m .learn .ensures .1 .1,
+          m .hear .ensures .1 .1,
           (
             λ f h.
                 subst (λ (k : ℕ). Remainders f (s .n) ws k (c .sweep .last .0)) (sym (grown (c .before .before .before)))
                 (remainders-swept f (s .n) ws (s .len) rs (c .sweep .last .0) (c .sweep .ensures .0)
-                (remainders-kept f (s .n) (s .len) rs (le-refl (8 * s .len)) (m .learn .ensures .1 .1) h)),
+                (remainders-kept f (s .n) (s .len) rs (le-refl (8 * s .len)) (m .hear .ensures .1 .1) h)),
             c .sweep .ensures .1,
           ),
         ),
@@ -67,15 +67,15 @@ returns c = let m = c .before .before .before .before .before in
 returns-2 : tie.Need-returns-2
 returns-2 c = let m = c .before .before in
     let s = m .before .before .args in (
-      m .learn .ensures .0,
+      m .hear .ensures .0,
       (
-        m .learn .ensures .1 .0,
+        m .hear .ensures .1 .0,
         (
-          m .learn .ensures .1 .1,
+          m .hear .ensures .1 .1,
           (
             λ f h.
-                subst (λ (k : ℕ). Remainders f (s .n) (m .learn .last .1 .0) k (now (s .remainders))) (sym (c .if1 .left))
-                (remainders-kept f (s .n) (s .len) (now (s .remainders)) (le-refl (8 * s .len)) (m .learn .ensures .1 .1) h),
+                subst (λ (k : ℕ). Remainders f (s .n) (m .hear .last .1 .0) k (now (s .remainders))) (sym (c .if1 .left))
+                (remainders-kept f (s .n) (s .len) (now (s .remainders)) (le-refl (8 * s .len)) (m .hear .ensures .1 .1) h),
             same-refl 0 (s .n) (now (s .remainders)),
           ),
         ),
@@ -83,4 +83,4 @@ returns-2 c = let m = c .before .before in
     )
 
 pub gain-spec : {M : Type 1} → statement M
-gain-spec = tie.close (tie.spec learn-requires sweep-requires returns returns-2)
+gain-spec = tie.close (tie.spec hear-requires sweep-requires returns returns-2)
