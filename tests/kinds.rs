@@ -1,0 +1,90 @@
+// Kinds of sheets for the benchmarks: each takes a number of entries and gives entries, heard messages and goal. The cut is the number of messages.
+
+use super::sheets::{Entry, Random};
+
+pub type Parts = (Vec<Entry>, Vec<u16>, u16);
+
+// A chain of pairs over zero: one new term a step, n steps.
+pub fn joins(n: usize) -> Parts {
+    let entries = (0..n as u16).map(|i| if i == 0 { Entry::Zero } else { Entry::Pair(i - 1, i - 1) }).collect();
+    (entries, vec![], n as u16 - 1)
+}
+
+// As joins, but the right of each pair is zero, so that a term written out as a tree grows by two and doesn't double.
+pub fn chain(n: usize) -> Parts {
+    let entries = (0..n as u16).map(|i| if i == 0 { Entry::Zero } else { Entry::Pair(i - 1, 0) }).collect();
+    (entries, vec![], n as u16 - 1)
+}
+
+// Half atoms, half sums of up to 64 of them, all sums heard: a full basis, and each atom a sum step.
+pub fn sums(n: usize) -> Parts {
+    let half = n as u16 / 2;
+    let mut entries: Vec<Entry> = (0..half).map(|i| Entry::Atom(i)).collect();
+    entries.extend((0..half).map(|i| Entry::Sum((0..=i.min(63)).map(|k| i - k).collect())));
+    (entries, (half..2 * half).collect(), half - 1)
+}
+
+// An atom sealed again and again under one key; the outermost seal and the key heard: n steps inwards.
+pub fn seals(n: usize) -> Parts {
+    let entries = (0..n as u16).map(|i| if i < 2 { Entry::Atom(i) } else { Entry::Seal(if i == 2 { 0 } else { i - 1 }, 1) }).collect();
+    (entries, vec![n as u16 - 1, 1], 0)
+}
+
+// Everything at once, and 256 heard messages.
+pub fn mixed(n: usize) -> Parts {
+    let mut r = Random(n as u64 + 77);
+    let entries = (0..n as u64)
+        .map(|i| match (i, i % 4) {
+            (0..=7, _) => Entry::Atom(i as u16),
+            (_, 0) => Entry::Pair(r.below(i) as u16, r.below(i) as u16),
+            (_, 1) => Entry::Seal(r.below(i) as u16, r.below(i) as u16),
+            _ => Entry::Sum((0..64).map(|_| r.below(i) as u16).collect()),
+        })
+        .collect();
+    let heard = (0..256).map(|k| (n - 1 - (k * 7) % n) as u16).collect();
+    (entries, heard, 0)
+}
+
+// Out of reach: every entry known but the goal, so that the run ends by finding nothing.
+pub fn stuck(n: usize) -> Parts {
+    let entries = (0..n as u16).map(|i| Entry::Atom(i)).collect();
+    (entries, (1..n as u16).collect(), 0)
+}
+
+// Entries of every kind drawn at random, half as many messages as entries, and a goal that is none of them.
+pub fn random(n: usize) -> Parts {
+    drawn(n, 1)
+}
+
+// The same, with a number that chooses the sheet.
+pub fn drawn(n: usize, seed: u64) -> Parts {
+    let mut r = Random((n as u64) << 32 | seed << 16 | 0x5eed);
+    let entries: Vec<Entry> = (0..n as u64)
+        .map(|i| {
+            let (kind, a, b) = (r.below(8), r.below(i.max(1)) as u16, r.below(i.max(1)) as u16);
+            match kind {
+                _ if i < 4 => Entry::Atom(i as u16),
+                0 => Entry::Atom(i as u16),
+                1..=2 => Entry::Pair(a, b),
+                3..=4 => Entry::Seal(a, b),
+                _ => Entry::Sum((0..2 + r.below(4)).map(|_| r.below(i) as u16).collect()),
+            }
+        })
+        .collect();
+    let heard: Vec<u16> = (0..n / 2).map(|_| r.below(n as u64) as u16).collect();
+    let goals: Vec<u16> = (0..n as u16).filter(|e| !heard.contains(e)).collect();
+    let goal = goals[r.below(goals.len() as u64) as usize];
+    (entries, heard, goal)
+}
+
+// A chain of pairs over zero beside an atom that nothing gains: at every cut the whole chain is climbed, and the card has its longest work.
+pub fn longest(n: usize) -> Parts {
+    let entries = (0..n as u16)
+        .map(|i| match i {
+            0 => Entry::Zero,
+            _ if i as usize == n - 1 => Entry::Atom(0),
+            _ => Entry::Pair(i - 1, i - 1),
+        })
+        .collect();
+    (entries, vec![0; 256], n as u16 - 1)
+}
