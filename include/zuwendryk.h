@@ -5,7 +5,7 @@
  * heard before a cut, by the listener's rules for pairs, seals and sums. "Out of reach" is proved: no finite row of steps whatever, through
  * terms of any size, gains the goal.
  *
- * Link with the archive libverdict.a. The calls use no heap, no global state and no other library; they may run in several threads at once,
+ * Link with the archive libzuwendryk.a (tools/install). The calls use no heap, no global state and no other library; they may run in several threads at once,
  * each on its own buffer.
  */
 #ifndef ZUWENDRYK_H

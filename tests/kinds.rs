@@ -30,18 +30,20 @@ pub fn seals(n: usize) -> Parts {
     (entries, vec![n as u16 - 1, 1], 0)
 }
 
-// Everything at once, and 256 heard messages.
+// Everything at once, and 256 heard messages over the upper half of the entries, so that the lower half is left to the steps. Nothing
+// holds the goal, so that the run ends by finding nothing.
 pub fn mixed(n: usize) -> Parts {
     let mut r = Random(n as u64 + 77);
+    let mut part = |i: u64| 1 + r.below(i - 1) as u16;
     let entries = (0..n as u64)
         .map(|i| match (i, i % 4) {
             (0..=7, _) => Entry::Atom(i as u16),
-            (_, 0) => Entry::Pair(r.below(i) as u16, r.below(i) as u16),
-            (_, 1) => Entry::Seal(r.below(i) as u16, r.below(i) as u16),
-            _ => Entry::Sum((0..64).map(|_| r.below(i) as u16).collect()),
+            (_, 0) => Entry::Pair(part(i), part(i)),
+            (_, 1) => Entry::Seal(part(i), part(i)),
+            _ => Entry::Sum((0..64).map(|_| part(i)).collect()),
         })
         .collect();
-    let heard = (0..256).map(|k| (n - 1 - (k * 7) % n) as u16).collect();
+    let heard = (0..256).map(|k| (n - 1 - (k * 7) % (n / 2)) as u16).collect();
     (entries, heard, 0)
 }
 
