@@ -263,6 +263,7 @@ fn refused_sheets(c: &mut Checks) {
         (sheet(&[Zero], &[], 1), "refused 2 (bad count)"),
         (short, "refused 3 (short list)"),
         ([sheet_a(), vec![0]].concat(), "refused 4 (bad pair)"),
+        ([sheet_a(), vec![0; 200_000]].concat(), "refused 1 (no sheet)"),
         (zero(vec![5]), "refused 5 (bad record)"),
         (sheet(&[Zero, Sum(vec![1])], &[], 0), "refused 6 (forward)"),
         (sheet(&[Zero], &[1], 0), "refused 7 (not listed)"),
@@ -475,6 +476,35 @@ fn bad_cards(c: &mut Checks) {
     c.fails(&["draw", "a.sheet", "missing.card"], b"", 1, "missing.card: can't be read", &[]);
 }
 
+// A rung with other sources or another rule doesn't follow.
+fn wrong_rungs(c: &mut Checks) {
+    use Entry::*;
+    let bytes = sheet(&[Atom(1), Atom(2), Pair(1, 0), Pair(2, 2), Seal(3, 0), Sum(vec![0, 1]), Pair(4, 5), Seal(6, 1)], &[4, 0], 7);
+    let card = card_of(&bytes);
+    c.check("a card with each rule", pictured(&bytes, &card).is_ok());
+    let edits = [
+        ("3 open 4 0", "3 open 4 4"),
+        ("3 open 4 0", "3 open 0 4"),
+        ("3 open 4 0", "3 open 4"),
+        ("2 left 3", "2 left 4"),
+        ("2 left 3", "2 left 3 3"),
+        ("1 left 2", "1 right 2"),
+        ("5 sum 0 1", "5 sum 1 0"),
+        ("5 sum 0 1", "5 sum 0 1 2"),
+        ("5 sum 0 1", "5 sum"),
+        ("6 join 4 5", "6 join 5 4"),
+        ("6 join 4 5", "6 seal 4 5"),
+        ("7 seal 6 1", "7 seal 6 0"),
+        ("7 seal 6 1", "7 seal 5 1"),
+        ("7 seal 6 1", "7 join 6 1"),
+    ];
+    for (right, wrong) in edits {
+        let refused = pictured(&bytes, &card.replace(right, wrong)).is_err_and(|message| message.contains("doesn't follow by"));
+        c.check(&format!("rung {wrong} in place of {right}"), card.contains(right) && refused);
+    }
+    c.check("XML is escaped", boxes::escape("<a & \"b\" 'c'>") == "&lt;a &amp; &quot;b&quot; &#39;c&#39;&gt;");
+}
+
 // Every beginning of a card is cut short; cards with changed bytes are drawn or refused, never a crash.
 fn hurt_cards(c: &mut Checks) {
     let mut r = Random(0x2545f4914f6cdd1d);
@@ -505,6 +535,7 @@ fn main() {
     pictures(&mut c);
     pictures_by_the_tool(&mut c);
     bad_cards(&mut c);
+    wrong_rungs(&mut c);
     hurt_cards(&mut c);
     let _ = fs::remove_dir_all(&dir);
     println!("tools: {} passed, {} failed", c.passed, c.failed);

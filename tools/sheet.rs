@@ -62,7 +62,11 @@ fn run(command: Command) -> Result<(), String> {
     match command {
         Command::Say(text) => files::write(&File::Standard, text.as_bytes()),
         Command::Assemble { text, out } => files::write(&out, &bytes::encode(&from_text(&text, &files::read(&text)?)?)),
-        Command::Disassemble { sheet, out } => files::write(&out, print::print(&from_bytes(&sheet, &files::read(&sheet)?)?).as_bytes()),
+        Command::Disassemble { sheet, out } => {
+            // One byte more than the longest good sheet is enough to refuse it.
+            let bytes = files::read_start(&sheet, bytes::MOST_BYTES as u64 + 1)?;
+            files::write(&out, print::print(&from_bytes(&sheet, &bytes)?).as_bytes())
+        }
         Command::Draw { sheet, card, dot, out } => files::write(&out, drawn(&sheet, &card, dot)?.as_bytes()),
     }
 }

@@ -13,17 +13,25 @@ pub fn name(file: &File) -> String {
     }
 }
 
-pub fn read(file: &File) -> Result<Vec<u8>, String> {
+// The file's first bytes, at most so many.
+pub fn read_start(file: &File, most: u64) -> Result<Vec<u8>, String> {
     let mut bytes = Vec::new();
     let read = match file {
-        File::Standard => std::io::stdin().lock().take(MOST + 1).read_to_end(&mut bytes),
-        File::Named(path) => std::fs::File::open(path).and_then(|opened| opened.take(MOST + 1).read_to_end(&mut bytes)),
+        File::Standard => std::io::stdin().lock().take(most).read_to_end(&mut bytes),
+        File::Named(path) => std::fs::File::open(path).and_then(|opened| opened.take(most).read_to_end(&mut bytes)),
     };
     match read {
         Err(error) => Err(format!("{}: can't be read: {error}", name(file))),
-        Ok(length) if length as u64 > MOST => Err(format!("{}: found more than {MOST} bytes, expected a sheet or a card", name(file))),
         Ok(_) => Ok(bytes),
     }
+}
+
+pub fn read(file: &File) -> Result<Vec<u8>, String> {
+    let bytes = read_start(file, MOST + 1)?;
+    if bytes.len() as u64 > MOST {
+        return Err(format!("{}: found more than {MOST} bytes, expected a sheet or a card", name(file)));
+    }
+    Ok(bytes)
 }
 
 pub fn write(file: &File, bytes: &[u8]) -> Result<(), String> {
