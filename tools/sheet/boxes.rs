@@ -1,0 +1,148 @@
+// The boxes of a picture: their texts, their sizes, and their SVG.
+
+use super::card::Rule;
+use super::graph::{Kind, Node};
+
+const NAME_CHARACTER: f64 = 9.1;
+const SMALL_CHARACTER: f64 = 7.3;
+const MARGIN: f64 = 14.0;
+const LONGEST_NAME: usize = 28;
+const LONGEST_TERM: usize = 36;
+
+// A place and a size; `x` and `y` are the upper left corner.
+#[derive(Clone, Copy)]
+pub struct Area {
+    pub x: f64,
+    pub y: f64,
+    pub width: f64,
+    pub height: f64,
+}
+
+pub fn escape(text: &str) -> String {
+    let mut out = String::new();
+    for c in text.chars() {
+        match c {
+            '&' => out.push_str("&amp;"),
+            '<' => out.push_str("&lt;"),
+            '>' => out.push_str("&gt;"),
+            '"' => out.push_str("&quot;"),
+            '\'' => out.push_str("&#39;"),
+            c if c.is_control() => out.push('?'),
+            c => out.push(c),
+        }
+    }
+    out
+}
+
+// How many columns a text takes in a font of equal widths. Letters of the far east take two.
+pub fn columns(text: &str) -> usize {
+    text.chars().map(|c| if (c as u32) >= 0x1100 && !(0x2000..0x2e80).contains(&(c as u32)) { 2 } else { 1 }).sum()
+}
+
+// The text, or its beginning with three dots.
+pub fn clipped(text: &str, most: usize) -> String {
+    if columns(text) <= most {
+        return text.to_string();
+    }
+    let (mut out, mut used) = (String::new(), 1);
+    for c in text.chars() {
+        used += columns(c.encode_utf8(&mut [0; 4]));
+        if used > most {
+            break;
+        }
+        out.push(c);
+    }
+    out.push('…');
+    out
+}
+
+// A sum's term, or its first items and how many more there are.
+fn short_term(term: &str) -> String {
+    let items: Vec<&str> = term.split(" ⊕ ").collect();
+    if columns(term) <= LONGEST_TERM || items.len() < 3 {
+        return clipped(term, LONGEST_TERM);
+    }
+    let mut out = String::new();
+    for (i, item) in items.iter().enumerate() {
+        if i > 0 && columns(&out) + columns(item) + 3 > LONGEST_TERM - 10 {
+            return format!("{} ⊕ {} more", clipped(&out, LONGEST_TERM - 10), items.len() - i);
+        }
+        out = if i == 0 { item.to_string() } else { format!("{out} ⊕ {item}") };
+    }
+    out
+}
+
+// The small line over the name.
+pub fn tag(node: &Node) -> String {
+    match &node.kind {
+        Kind::Heard(places) if places.len() > 4 => format!("heard {} times", places.len()),
+        Kind::Heard(places) => format!("heard {}", places.iter().map(usize::to_string).collect::<Vec<_>>().join(", ")),
+        Kind::Rung(number, rule) => format!("rung {number} · {}", rule.words()),
+        Kind::Missed => "not gained".to_string(),
+    }
+}
+
+// The whole node in words, for a reader without the picture.
+pub fn spoken(node: &Node) -> String {
+    let same = node.same.as_ref().map_or(String::new(), |other| format!(", the same as {other}"));
+    let goal = if node.goal { " (goal)" } else { "" };
+    format!("{}: {}{goal} = {}{same}", tag(node), node.label, node.term)
+}
+
+fn same_line(node: &Node) -> Option<String> {
+    node.same.as_ref().map(|other| clipped(&format!("same as {other}"), LONGEST_TERM))
+}
+
+pub fn size(node: &Node) -> (f64, f64) {
+    let small = |text: &str| columns(text) as f64 * SMALL_CHARACTER;
+    let goal = if node.goal { 7.0 * SMALL_CHARACTER } else { 0.0 };
+    let name = columns(&clipped(&node.label, LONGEST_NAME)) as f64 * NAME_CHARACTER;
+    let same = same_line(node).map_or(0.0, |text| small(&text));
+    let widest = [small(&tag(node)) + goal, name, small(&short_term(&node.term)), same].into_iter().fold(96.0, f64::max);
+    (widest + 2.0 * MARGIN, if node.same.is_some() { 78.0 } else { 63.0 })
+}
+
+fn class(node: &Node) -> &'static str {
+    match node.kind {
+        Kind::Heard(_) => "heard",
+        Kind::Rung(..) => "rung",
+        Kind::Missed => "missed",
+    }
+}
+
+fn colour(node: &Node) -> &'static str {
+    match node.kind {
+        Kind::Heard(_) => "heard-ink",
+        Kind::Missed => "missed-ink",
+        Kind::Rung(_, Rule::Left | Rule::Right) => "split-ink",
+        Kind::Rung(_, Rule::Open) => "open-ink",
+        Kind::Rung(_, Rule::Join) => "join-ink",
+        Kind::Rung(_, Rule::Seal) => "seal-ink",
+        Kind::Rung(_, Rule::Sum) => "sum-ink",
+    }
+}
+
+fn text(class: &str, x: f64, y: f64, anchor: &str, content: &str) -> String {
+    format!("<text class=\"{class}\" x=\"{x:.1}\" y=\"{y:.1}\"{anchor}>{}</text>\n", escape(content))
+}
+
+pub fn draw(node: &Node, area: Area, pale: bool) -> String {
+    let Area { x, y, width, height } = area;
+    let more = format!("{}{}", if node.goal { " goal" } else { "" }, if pale { " pale" } else { "" });
+    let left = x + MARGIN;
+    let mut out = format!("<g class=\"{}{more}\">\n<title>{}</title>\n", class(node), escape(&spoken(node)));
+    out.push_str(&format!("<rect x=\"{x:.1}\" y=\"{y:.1}\" width=\"{width:.1}\" height=\"{height:.1}\" rx=\"7\"/>\n"));
+    let bar = format!("M{:.1} {:.1}v{:.1}", x + 5.0, y + 10.0, height - 20.0);
+    out.push_str(&format!("<path class=\"bar {}\" d=\"{bar}\"/>\n", colour(node)));
+    out.push_str(&text(&format!("tag {}", colour(node)), left, y + 18.0, "", &tag(node)));
+    if node.goal {
+        out.push_str(&text("flag", x + width - MARGIN, y + 18.0, " text-anchor=\"end\"", "GOAL"));
+    }
+    out.push_str(&text("name", left, y + 37.0, "", &clipped(&node.label, LONGEST_NAME)));
+    out.push_str(&text("term", left, y + 53.0, "", &short_term(&node.term)));
+    if let Some(line) = same_line(node) {
+        out.push_str(&text("term", left, y + 68.0, "", &line));
+    }
+    out.push_str("</g>\n");
+    out
+}

@@ -1,0 +1,45 @@
+// Reading inputs whole and writing outputs whole. A fault is one line for the user.
+
+use super::args::File;
+use std::io::{Read, Write};
+
+const MOST: u64 = 64 << 20;
+
+// A file's name on one line.
+pub fn name(file: &File) -> String {
+    match file {
+        File::Standard => "<stdin>".to_string(),
+        File::Named(name) => name.to_string_lossy().chars().map(|c| if c.is_control() { '?' } else { c }).collect(),
+    }
+}
+
+// The file's first bytes, at most so many.
+pub fn read_start(file: &File, most: u64) -> Result<Vec<u8>, String> {
+    let mut bytes = Vec::new();
+    let read = match file {
+        File::Standard => std::io::stdin().lock().take(most).read_to_end(&mut bytes),
+        File::Named(path) => std::fs::File::open(path).and_then(|opened| opened.take(most).read_to_end(&mut bytes)),
+    };
+    match read {
+        Err(error) => Err(format!("{}: can't be read: {error}", name(file))),
+        Ok(_) => Ok(bytes),
+    }
+}
+
+pub fn read(file: &File) -> Result<Vec<u8>, String> {
+    let bytes = read_start(file, MOST + 1)?;
+    if bytes.len() as u64 > MOST {
+        return Err(format!("{}: found more than {MOST} bytes, expected a sheet or a card", name(file)));
+    }
+    Ok(bytes)
+}
+
+pub fn write(file: &File, bytes: &[u8]) -> Result<(), String> {
+    match file {
+        File::Standard => {
+            let mut out = std::io::stdout().lock();
+            out.write_all(bytes).and_then(|()| out.flush()).map_err(|error| format!("<stdout>: can't be written: {error}"))
+        }
+        File::Named(path) => std::fs::write(path, bytes).map_err(|error| format!("{}: can't be written: {error}", name(file))),
+    }
+}

@@ -1,0 +1,166 @@
+// The picture of a ladder as SVG: heard messages on the left, each rung a box, lines from its sources, the goal in gold.
+
+use super::boxes::{clipped, columns, draw, escape, size, spoken, Area};
+use super::graph::{Graph, Kind};
+use super::layout::{layout, Layout, Link, GAP};
+
+const EDGE: f64 = 28.0;
+const HEAD: f64 = 72.0;
+const LONGEST_HEADING: usize = 110;
+
+const STYLE: &str = "\
+text{font-family:'DejaVu Sans Mono',Menlo,Consolas,'Liberation Mono',monospace;font-size:12px;fill:#4a5261}
+.title{font-family:'Segoe UI','Helvetica Neue','DejaVu Sans',Arial,sans-serif;font-size:19px;font-weight:600;fill:#1b2230}
+.note{font-family:'Segoe UI','Helvetica Neue','DejaVu Sans',Arial,sans-serif;font-size:12.5px;fill:#5a6373}
+.name{font-size:15px;font-weight:700;fill:#1b2230}
+.tag{font-size:11.5px}
+.flag{font-size:11.5px;font-weight:700;fill:#8a5a00}
+.paper{fill:#fbfaf6;stroke:#d9d5c8}
+rect{fill:#fff;stroke:#8b94a6;stroke-width:1.2}
+.heard rect{fill:#e9f1fc;stroke:#7d9fd0}
+.missed rect{fill:#fdecea;stroke:#c0392b;stroke-width:2.2;stroke-dasharray:7 4}
+.goal:not(.missed) rect{fill:#fff2c2;stroke:#c98a00;stroke-width:2.6}
+.bar{fill:none;stroke-width:3.5;stroke-linecap:round}
+.line{fill:none;stroke:#56627a;stroke-width:1.6}
+.key{stroke-dasharray:6 4}
+.line.pale{stroke:#c6cbd5;stroke-width:1.1}
+g.pale{opacity:.5}
+.tip{fill:#56627a;stroke:none}
+.tip.pale{fill:#c6cbd5}
+.wall{fill:none;stroke:#c0392b;stroke-width:1.6;stroke-dasharray:3 6}
+.stop{font-family:'Segoe UI','Helvetica Neue','DejaVu Sans',Arial,sans-serif;font-size:17px;font-weight:600;fill:#b03022}
+text.heard-ink{fill:#2f5c9e}path.heard-ink{stroke:#5b87c9}
+text.missed-ink{fill:#b03022}path.missed-ink{stroke:#c0392b}
+text.split-ink{fill:#0d6e6e}path.split-ink{stroke:#1d9a9a}
+text.open-ink{fill:#a04a00}path.open-ink{stroke:#dd7a1f}
+text.join-ink{fill:#5d3fa3}path.join-ink{stroke:#8867d3}
+text.seal-ink{fill:#a12a5e}path.seal-ink{stroke:#d2558c}
+text.sum-ink{fill:#2c6e2f}path.sum-ink{stroke:#4f9f53}
+";
+
+// The left edge and the width of each rank's column.
+fn column_places(layout: &Layout, sizes: &[(f64, f64)]) -> Vec<(f64, f64)> {
+    let mut links = vec![0usize; layout.ranks.len()];
+    layout.links.iter().for_each(|link| links[layout.cells[link.from].rank] += 1);
+    let mut x = EDGE;
+    let mut places = Vec::new();
+    for (r, rank) in layout.ranks.iter().enumerate() {
+        let width = rank.iter().filter_map(|cell| sizes.get(*cell)).map(|size| size.0).fold(8.0, f64::max);
+        places.push((x, width));
+        x += width + 70.0 + (links[r] as f64 * 1.6).min(110.0);
+    }
+    places
+}
+
+// Where each link meets its target: the links of a box are spread over its left side in the order of their sources.
+fn ports(layout: &Layout, boxes: usize) -> Vec<f64> {
+    let mut port: Vec<f64> = layout.links.iter().map(|link| layout.cells[link.to].y).collect();
+    let mut into: Vec<Vec<usize>> = vec![Vec::new(); boxes];
+    for (i, link) in layout.links.iter().enumerate() {
+        if let Some(list) = into.get_mut(link.to) {
+            list.push(i);
+        }
+    }
+    for list in &mut into {
+        list.sort_by(|a, b| layout.cells[layout.links[*a].from].y.total_cmp(&layout.cells[layout.links[*b].from].y));
+        let step = if list.len() > 1 { (38.0 / (list.len() - 1) as f64).min(13.0) } else { 0.0 };
+        for (i, link) in list.iter().enumerate() {
+            port[*link] += (i as f64 - (list.len() - 1) as f64 / 2.0) * step;
+        }
+    }
+    port
+}
+
+fn line(layout: &Layout, link: &Link, port: f64, columns: &[(f64, f64)], boxes: usize) -> String {
+    let (from, to) = (&layout.cells[link.from], &layout.cells[link.to]);
+    let (x1, y1) = (columns[from.rank].0 + columns[from.rank].1, from.y + HEAD);
+    let (x2, y2) = (columns[to.rank].0, port + HEAD);
+    let pale = if link.needed { "" } else { " pale" };
+    let key = if link.key { " key" } else { "" };
+    let is_box = link.to < boxes;
+    let stop = if is_box { x2 - 7.0 } else { x2 };
+    let bend = (stop - x1) / 2.0;
+    let through = if is_box { String::new() } else { format!("h{:.1}", columns[to.rank].1) };
+    let curve = format!("M{x1:.1} {y1:.1}C{:.1} {y1:.1} {:.1} {y2:.1} {stop:.1} {y2:.1}{through}", x1 + bend, stop - bend);
+    let mut out = format!("<path class=\"line{key}{pale}\" d=\"{curve}\"/>\n");
+    if is_box {
+        out.push_str(&format!("<path class=\"tip{pale}\" d=\"M{x2:.1} {y2:.1}l-8 -3.6v7.2z\"/>\n"));
+    }
+    out
+}
+
+// A finished picture: its body inside the frame, with title and notes.
+pub fn frame(graph: &Graph, body: &str, width: f64, bottom: f64) -> String {
+    let heading = clipped(&graph.title, LONGEST_HEADING);
+    let widest = graph.notes.iter().map(|note| columns(note) as f64 * 7.4).fold(columns(&heading) as f64 * 11.6, f64::max);
+    let width = width.max(widest + 2.0 * EDGE);
+    let height = bottom + 14.0 + graph.notes.len() as f64 * 19.0 + EDGE;
+    let told: Vec<String> = graph.nodes.iter().map(spoken).collect();
+    let mut out = String::from("<svg xmlns=\"http://www.w3.org/2000/svg\" role=\"img\" aria-labelledby=\"title\" aria-describedby=\"told\"");
+    out.push_str(&format!(" width=\"{width:.0}\" height=\"{height:.0}\" viewBox=\"0 0 {width:.0} {height:.0}\">\n"));
+    out.push_str(&format!("<title id=\"title\">{}</title>\n<desc id=\"told\">{}</desc>\n", escape(&graph.title), escape(&told.join("; "))));
+    out.push_str(&format!("<style>\n{STYLE}</style>\n"));
+    out.push_str(&format!("<rect class=\"paper\" x=\"0.5\" y=\"0.5\" width=\"{:.0}\" height=\"{:.0}\" rx=\"10\"/>\n", width - 1.0, height - 1.0));
+    out.push_str(&format!("<text class=\"title\" x=\"{EDGE}\" y=\"42\">{}</text>\n{body}", escape(&heading)));
+    for (i, note) in graph.notes.iter().enumerate() {
+        let y = bottom + 28.0 + i as f64 * 19.0;
+        out.push_str(&format!("<text class=\"note\" x=\"{EDGE}\" y=\"{y:.1}\">{}</text>\n", escape(note)));
+    }
+    out.push_str("</svg>\n");
+    out
+}
+
+fn ladder(graph: &Graph) -> String {
+    let sizes: Vec<(f64, f64)> = graph.nodes.iter().map(size).collect();
+    let heights: Vec<f64> = sizes.iter().map(|size| size.1).collect();
+    let layout = layout(graph, &heights);
+    let columns = column_places(&layout, &sizes);
+    let ports = ports(&layout, sizes.len());
+    let mut body = String::new();
+    // Needed lines are drawn over pale ones.
+    for needed in [false, true] {
+        for (link, port) in layout.links.iter().zip(&ports).filter(|(link, _)| link.needed == needed) {
+            body.push_str(&line(&layout, link, *port, &columns, sizes.len()));
+        }
+    }
+    for (node, cell) in graph.nodes.iter().zip(&layout.cells) {
+        let (x, width) = columns[cell.rank];
+        let area = Area { x, y: cell.y - cell.height / 2.0 + HEAD, width, height: cell.height };
+        body.push_str(&draw(node, area, !node.needed));
+    }
+    let right = columns.last().map_or(0.0, |(x, width)| x + width);
+    let bottom = layout.cells.iter().map(|cell| cell.y + cell.height / 2.0).fold(0.0, f64::max);
+    frame(graph, &body, right + EDGE, bottom + HEAD)
+}
+
+// Heard messages in columns, a wall, and the goal behind it.
+fn apart(graph: &Graph) -> String {
+    let sizes: Vec<(f64, f64)> = graph.nodes.iter().map(size).collect();
+    let width = sizes.iter().map(|size| size.0).fold(0.0, f64::max);
+    let height = sizes.iter().map(|size| size.1).fold(0.0, f64::max);
+    let heard = graph.nodes.iter().filter(|node| node.kind != Kind::Missed).count();
+    let rows = ((heard as f64 * 1.6).sqrt().ceil() as usize).clamp(1, heard.max(1));
+    let shelves = heard.div_ceil(rows);
+    let wall = EDGE + shelves as f64 * (width + GAP) + 40.0;
+    let bottom = HEAD + (rows as f64 * (height + GAP) - GAP).max(120.0);
+    let middle = (HEAD + bottom) / 2.0;
+    let mut body = format!("<path class=\"wall\" d=\"M{wall:.1} {HEAD}V{bottom:.1}\"/>\n");
+    for (i, node) in graph.nodes.iter().enumerate() {
+        let (x, y) = match node.kind {
+            Kind::Missed => (wall + 58.0, middle - height / 2.0),
+            _ => (EDGE + (i / rows) as f64 * (width + GAP), HEAD + (i % rows) as f64 * (height + GAP)),
+        };
+        body.push_str(&draw(node, Area { x, y, width, height }, false));
+    }
+    let centre = wall + 58.0 + width / 2.0;
+    let over = middle - height / 2.0 - 14.0;
+    body.push_str(&format!("<text class=\"stop\" x=\"{centre:.1}\" y=\"{over:.1}\" text-anchor=\"middle\">out of reach</text>\n"));
+    if heard == 0 {
+        body.push_str(&format!("<text class=\"note\" x=\"{EDGE}\" y=\"{middle:.1}\">nothing heard</text>\n"));
+    }
+    frame(graph, &body, wall + 58.0 + width + EDGE, bottom)
+}
+
+pub fn svg(graph: &Graph) -> String {
+    if graph.reached { ladder(graph) } else { apart(graph) }
+}

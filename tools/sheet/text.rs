@@ -1,0 +1,195 @@
+// The text notation of a sheet, read: one statement a line, every fault with its place.
+
+use super::model::{Entry, Sheet, MOST_ENTRIES, MOST_HEARD, MOST_ITEMS};
+use super::words::{decimal, end_of, fault, line, quoted, utf8, Fault, Line, Place, Word};
+use std::collections::HashMap;
+
+const RESERVED: [&str; 7] = ["zero", "atom", "pair", "seal", "sum", "heard", "goal"];
+const KINDS: &str = "expected zero, atom, pair, seal or sum";
+
+// What has been read so far. `named` gives a name's entry and line; `goal` the goal and its line.
+#[derive(Default)]
+struct Reader {
+    entries: Vec<Entry>,
+    names: Vec<Option<String>>,
+    named: HashMap<String, (usize, usize)>,
+    heard: Vec<usize>,
+    goal: Option<(usize, usize)>,
+}
+
+fn is_name(word: &str) -> bool {
+    let mut letters = word.chars();
+    let first = letters.next().is_some_and(char::is_alphabetic);
+    first && letters.all(|c| c.is_alphabetic() || c.is_ascii_digit() || matches!(c, '_' | '-' | '\''))
+}
+
+// The word at a position of the line, or a fault at the line's end that says what was expected there.
+fn word<'a>(line: &Line<'a>, position: usize, what: &str) -> Result<Word<'a>, Fault> {
+    match line.words.get(position) {
+        Some(word) => Ok(*word),
+        None => fault(line.end, format!("found the line's end, expected {what}")),
+    }
+}
+
+// No word may stand at this position or after it.
+fn ends(line: &Line, position: usize, what: &str) -> Result<(), Fault> {
+    match line.words.get(position) {
+        Some(word) => fault(word.place, format!("found {}, expected the line's end after {what}", quoted(word.text))),
+        None => Ok(()),
+    }
+}
+
+fn atom_number(word: Word) -> Result<u16, Fault> {
+    match decimal(word.text).map(u16::try_from) {
+        Some(Ok(number)) => Ok(number),
+        Some(Err(_)) => fault(word.place, format!("the number {} is out of range, expected 0 to 65535", shown_number(word.text))),
+        None => fault(word.place, format!("found {}, expected a number from 0 to 65535", quoted(word.text))),
+    }
+}
+
+// The digits of a number as written, cut when there are many.
+fn shown_number(digits: &str) -> String {
+    if digits.len() > 20 { format!("{}...", &digits[..20]) } else { digits.to_string() }
+}
+
+impl Reader {
+    // The entry that a word names. Its line stands above.
+    fn entry(&self, word: Word) -> Result<usize, Fault> {
+        let declared = self.entries.len();
+        if let Some(number) = decimal(word.text) {
+            if number < declared {
+                return Ok(number);
+            }
+            let range = match declared {
+                0 => "an entry declared above, and there is none".to_string(),
+                _ => format!("an entry declared above: 0 to {}", declared - 1),
+            };
+            return fault(word.place, format!("entry {} isn't declared above, expected {range}", shown_number(word.text)));
+        }
+        match self.named.get(word.text) {
+            Some((entry, _)) => Ok(*entry),
+            None => fault(word.place, format!("entry {} isn't declared above, expected the number or name of an entry declared above", quoted(word.text))),
+        }
+    }
+
+    // The label of the next entry: none if it is its number, or its name.
+    fn label(&self, word: Word) -> Result<Option<String>, Fault> {
+        let place = self.entries.len();
+        if let Some(number) = decimal(word.text) {
+            if number == place {
+                return Ok(None);
+            }
+            return fault(word.place, format!("the label {} isn't the entry's place, expected {place} or a name", shown_number(word.text)));
+        }
+        if RESERVED.contains(&word.text) {
+            return fault(word.place, format!("{} is reserved and can't be a name, expected a label, heard or goal", quoted(word.text)));
+        }
+        if !is_name(word.text) {
+            let rule = "a name (a letter, then letters, digits, _, - or ')";
+            return fault(word.place, format!("found {}, expected heard, goal, the label {place} or {rule}", quoted(word.text)));
+        }
+        match self.named.get(word.text) {
+            Some((entry, line)) => {
+                let found = format!("the name {} is used twice: it stands for entry {entry} (line {line})", quoted(word.text));
+                fault(word.place, format!("{found}, expected another name"))
+            }
+            None => Ok(Some(word.text.to_string())),
+        }
+    }
+
+    // The two entries behind a kind's word.
+    fn two(&self, line: &Line, kind: &str, first: &str, second: &str) -> Result<(usize, usize), Fault> {
+        let one = self.entry(word(line, 2, first)?)?;
+        let other = self.entry(word(line, 3, second)?)?;
+        ends(line, 4, &format!("the two entries of a {kind}"))?;
+        Ok((one, other))
+    }
+
+    fn items(&self, words: &[Word]) -> Result<Vec<usize>, Fault> {
+        if let Some(word) = words.get(MOST_ITEMS) {
+            return fault(word.place, format!("found {} items in a sum, expected at most {MOST_ITEMS}", words.len()));
+        }
+        words.iter().map(|word| self.entry(*word)).collect()
+    }
+
+    // The term of an entry's line.
+    fn term(&self, line: &Line) -> Result<Entry, Fault> {
+        let kind = word(line, 1, "zero, atom, pair, seal or sum after the label")?;
+        match kind.text {
+            "zero" => ends(line, 2, "zero").map(|()| Entry::Zero),
+            "atom" => {
+                let number = atom_number(word(line, 2, "the atom's number, 0 to 65535")?)?;
+                ends(line, 3, "the atom's number").map(|()| Entry::Atom(number))
+            }
+            "pair" => self.two(line, "pair", "the left entry", "the right entry").map(|(l, r)| Entry::Pair(l, r)),
+            "seal" => self.two(line, "seal", "the message", "the key").map(|(m, k)| Entry::Seal(m, k)),
+            "sum" => self.items(line.words.get(2..).unwrap_or(&[])).map(Entry::Sum),
+            other => fault(kind.place, format!("unknown word {}, {KINDS}", quoted(other))),
+        }
+    }
+
+    fn declare(&mut self, line: &Line, first: Word) -> Result<(), Fault> {
+        let number = self.entries.len();
+        let name = self.label(first)?;
+        let term = self.term(line)?;
+        if number == MOST_ENTRIES {
+            return fault(first.place, format!("found entry line {}, expected at most {MOST_ENTRIES}", number + 1));
+        }
+        if let Some(name) = &name {
+            self.named.insert(name.clone(), (number, first.place.line));
+        }
+        self.names.push(name);
+        self.entries.push(term);
+        Ok(())
+    }
+
+    fn hear(&mut self, words: &[Word]) -> Result<(), Fault> {
+        for word in words {
+            let entry = self.entry(*word)?;
+            if self.heard.len() == MOST_HEARD {
+                return fault(word.place, format!("found heard message {}, expected at most {MOST_HEARD}", MOST_HEARD + 1));
+            }
+            self.heard.push(entry);
+        }
+        Ok(())
+    }
+
+    fn aim(&mut self, line: &Line, first: Word) -> Result<(), Fault> {
+        if let Some((_, earlier)) = self.goal {
+            return fault(first.place, format!("found a second goal, expected one: the first is on line {earlier}"));
+        }
+        let entry = self.entry(word(line, 1, "the goal's entry")?)?;
+        ends(line, 2, "the goal's entry")?;
+        self.goal = Some((entry, first.place.line));
+        Ok(())
+    }
+
+    fn statement(&mut self, line: &Line) -> Result<(), Fault> {
+        let Some(first) = line.words.first().copied() else { return Ok(()) };
+        match first.text {
+            "heard" => self.hear(&line.words[1..]),
+            "goal" => self.aim(line, first),
+            _ => self.declare(line, first),
+        }
+    }
+
+    fn finish(self, end: Place) -> Result<Sheet, Fault> {
+        if self.entries.is_empty() {
+            return fault(end, format!("found no entries, expected 1 to {MOST_ENTRIES} entry lines"));
+        }
+        match self.goal {
+            None => fault(end, "found no goal, expected one line: goal ENTRY".to_string()),
+            Some((goal, _)) => Ok(Sheet { entries: self.entries, names: self.names, heard: self.heard, goal }),
+        }
+    }
+}
+
+// The sheet of a text, or its first fault.
+pub fn parse(bytes: &[u8]) -> Result<Sheet, Fault> {
+    let text = utf8(bytes)?;
+    let mut reader = Reader::default();
+    for (i, one) in text.lines().enumerate() {
+        reader.statement(&line(one, i + 1))?;
+    }
+    reader.finish(end_of(text))
+}
