@@ -325,7 +325,8 @@ fn well_formed(text: &str) -> bool {
         return false;
     }
     for part in parts {
-        let Some((tag, after)) = part.split_once('>') else { return false };
+        // A part without its > has an empty name, which is a fault below.
+        let (tag, after) = part.split_once('>').unwrap_or(("", ""));
         let name = tag.split([' ', '/']).next().unwrap_or("");
         if let Some(closed) = tag.strip_prefix('/') {
             if open.pop() != Some(closed) {
@@ -499,7 +500,7 @@ fn wrong_rungs(c: &mut Checks) {
         ("7 seal 6 1", "7 join 6 1"),
     ];
     for (right, wrong) in edits {
-        let refused = pictured(&bytes, &card.replace(right, wrong)).is_err_and(|message| message.contains("doesn't follow by"));
+        let refused = pictured(&bytes, &card.replace(right, wrong)).map_or_else(|message| message.contains("doesn't follow by"), |_| false);
         c.check(&format!("rung {wrong} in place of {right}"), card.contains(right) && refused);
     }
     c.check("XML is escaped", boxes::escape("<a & \"b\" 'c'>") == "&lt;a &amp; &quot;b&quot; &#39;c&#39;&gt;");

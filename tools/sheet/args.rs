@@ -131,9 +131,7 @@ fn draw(words: Words, out: File) -> Result<Command, String> {
 
 // The command of a line without the program's own name.
 pub fn parse(mut line: impl Iterator<Item = OsString>) -> Result<Command, String> {
-    let Some(first) = line.next() else {
-        return Err("no command, expected assemble, disassemble or draw".to_string());
-    };
+    let first = line.next().ok_or("no command, expected assemble, disassemble or draw")?;
     let help = match first.to_str() {
         Some("-h" | "--help") => return Ok(Command::Say(HELP)),
         Some("--version") => return Ok(Command::Say(VERSION)),

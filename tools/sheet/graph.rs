@@ -122,9 +122,11 @@ fn mark(nodes: &mut [Node], edges: &mut [Edge]) {
 fn edges(rule: Rule, sources: &[usize], to: usize, node_of: &[Option<usize>]) -> Vec<Edge> {
     let mut list: Vec<Edge> = Vec::new();
     for (i, source) in sources.iter().enumerate() {
-        let Some(from) = node_of[*source] else { continue };
-        if !list.iter().any(|edge| edge.from == from) {
-            list.push(Edge { from, to, key: i == 1 && matches!(rule, Rule::Open | Rule::Seal), needed: false });
+        match node_of[*source] {
+            Some(from) if !list.iter().any(|edge| edge.from == from) => {
+                list.push(Edge { from, to, key: i == 1 && matches!(rule, Rule::Open | Rule::Seal), needed: false });
+            }
+            _ => (),
         }
     }
     list

@@ -163,7 +163,7 @@ fn settle(wanted: &[(f64, f64)], steps: &[f64]) -> Vec<f64> {
         }
         blocks.push(block);
     }
-    let flat = blocks.iter().flat_map(|block| std::iter::repeat_n(block.0, block.2));
+    let flat = blocks.iter().flat_map(|block| std::iter::repeat(block.0).take(block.2));
     flat.zip(offsets).map(|(place, offset)| place + offset).collect()
 }
 

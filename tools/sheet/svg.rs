@@ -140,7 +140,7 @@ fn apart(graph: &Graph) -> String {
     let height = sizes.iter().map(|size| size.1).fold(0.0, f64::max);
     let heard = graph.nodes.iter().filter(|node| node.kind != Kind::Missed).count();
     let rows = ((heard as f64 * 1.6).sqrt().ceil() as usize).clamp(1, heard.max(1));
-    let shelves = heard.div_ceil(rows);
+    let shelves = (heard + rows - 1) / rows;
     let wall = EDGE + shelves as f64 * (width + GAP) + 40.0;
     let bottom = HEAD + (rows as f64 * (height + GAP) - GAP).max(120.0);
     let middle = (HEAD + bottom) / 2.0;

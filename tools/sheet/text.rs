@@ -19,7 +19,7 @@ struct Reader {
 
 fn is_name(word: &str) -> bool {
     let mut letters = word.chars();
-    let first = letters.next().is_some_and(char::is_alphabetic);
+    let first = letters.next().map_or(false, char::is_alphabetic);
     first && letters.all(|c| c.is_alphabetic() || c.is_ascii_digit() || matches!(c, '_' | '-' | '\''))
 }
 
@@ -165,11 +165,11 @@ impl Reader {
     }
 
     fn statement(&mut self, line: &Line) -> Result<(), Fault> {
-        let Some(first) = line.words.first().copied() else { return Ok(()) };
-        match first.text {
-            "heard" => self.hear(&line.words[1..]),
-            "goal" => self.aim(line, first),
-            _ => self.declare(line, first),
+        match line.words.first().copied() {
+            None => Ok(()),
+            Some(first) if first.text == "heard" => self.hear(&line.words[1..]),
+            Some(first) if first.text == "goal" => self.aim(line, first),
+            Some(first) => self.declare(line, first),
         }
     }
 
