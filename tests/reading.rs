@@ -177,8 +177,9 @@ pub fn work(sheet: &Sheet, cut: usize, budget: usize) -> (Answer, Vec<Rung>, Wor
         if w.gained.contains(&goal) {
             return (Answer::Reached, rungs, w);
         }
-        let Some(rung) = w.next(sheet) else {
-            return (Answer::OutOfReach, rungs, w);
+        let rung = match w.next(sheet) {
+            Some(rung) => rung,
+            None => return (Answer::OutOfReach, rungs, w),
         };
         if rungs.len() == budget {
             return (Answer::Stopped, rungs, w);
