@@ -1,11 +1,13 @@
 -- The demands on a verdict call that isn't refused, as a statement about whole derivations (document 01, "Ladders and their replay").
--- Defined: `stepsIn`, the rungs read back from the returned bytes; `Passes`, the replay of them; `Meets`, demands 2 and 3 of an answer.
+-- Defined: `stepsIn`, the rungs read back from the returned bytes; `Passes`, the replay of them; `Meets`, the gained set and demands 2 and 3 of an answer.
 -- Nothing here names the search or the run.
 use Prim.Native.Nat.{ℕ, zero, suc, _+_, _*_, _≤_}
 use mathlib.Core.Path.{_≡_}
+use mathlib.Core.Bool.{true}
 use mathlib.Core.Logic.{_⊎_, _↔_}
 use mathlib.Core.List.{List, [], _∷_, _++_, map, List·Memᴰ}
 use lib.ListN.{take, drop}
+use Rattle.bitset.specs.Set.{member}
 use Rattle.bitset.specs.Words.{setOf}
 use Rattle.deduction.specs.Term.{Term}
 use Rattle.deduction.specs.Derivation.{Holds, Derivable}
@@ -36,6 +38,10 @@ unfoldable pub stepsIn : List ℕ → ℕ → List Step
 stepsIn out zero = []
 stepsIn out (suc k) = stepsIn out k ++ (readStep (drop (32 + 40 * k) out) ∷ [])
 
+-- the heads gained by hearing and by the first k rungs of a buffer, in order
+abbrev pub gainedHeads : List ℕ → ℕ → ℕ → List ℕ → List ℕ
+gainedHeads s cut k out = startHeads s cut ++ map (λ (r : Step). r .head) (stepsIn out k)
+
 -- "The replay is fed the sheet, the cut and the call's answers: the rung count and that many rungs of 40 bytes." No rung is wrong, and "the goal
 -- is gained when its term is in the state at the end"
 abbrev pub Passes : List ℕ → ℕ → ℕ → List ℕ → Type 0
@@ -57,6 +63,8 @@ pub record Meets (s : List ℕ) (cut budget : ℕ) (out : List ℕ) (answer : �
   -- the count k that comes with it
   pub count : ℕ
   pub kinds : Reached answer count ⊎ (OutOfReach answer count ⊎ Stopped answer count)
+  -- "32 bytes of gained set (bit of value 2 to the power e mod 8 in byte e div 8, for each gained head e)"
+  pub known : (e : ℕ) → (member (setOf (take 32 out)) e ≡ true) ↔ List·Memᴰ e (gainedHeads s cut count out)
   -- demand 2: each rung is the one that document 01's order names
   pub ordered : Made (termAt (entryAt s)) (countOf s) (startHeads s cut) (stepsIn out count)
   -- demand 3, with a budget of at least the number of entries: "out of reach exactly when no finite ladder from the messages before the cut
@@ -69,5 +77,5 @@ pub record Meets (s : List ℕ) (cut budget : ℕ) (out : List ℕ) (answer : �
   pub out-of-reach : OutOfReach answer count → ¬ Derivable (startTerms s cut) (goalTerm s)
   -- "*stopped* if it isn't [gained], exactly b rungs were made and another follows"
   pub stopped : Stopped answer count
-      → (count ≡ budget) × (¬ Holds (map (termAt (entryAt s)) (startHeads s cut ++ map (λ (r : Step). r .head) (stepsIn out count))) (goalTerm s))
-      × ((r : Step) × Follows (termAt (entryAt s)) (countOf s) (startHeads s cut ++ map (λ (r : Step). r .head) (stepsIn out count)) r)
+      → (count ≡ budget) × (¬ Holds (map (termAt (entryAt s)) (gainedHeads s cut count out)) (goalTerm s))
+      × ((r : Step) × Follows (termAt (entryAt s)) (countOf s) (gainedHeads s cut count out) r)

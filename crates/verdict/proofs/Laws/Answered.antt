@@ -1,14 +1,13 @@
 -- The rows 8 to 10 after 1 to 7, and the answer of a call that is refused or not. Assumes nothing.
-use mathlib.Core.Path.{_≡_, refl, sym, ap, ap₂, _∙_, subst}
-use mathlib.Core.Bool.{Bool, true, false, cond}
+use mathlib.Core.Path.{_≡_, sym, ap, ap₂, _∙_, subst}
+use mathlib.Core.Bool.{Bool, cond}
 use mathlib.Core.List.{List, _++_}
-use Prim.Native.Nat.{ℕ, zero, suc, _+_, _*_, _≤_, _<_}
+use Prim.Native.Nat.{ℕ, _+_, _*_, _≤_, _<_}
 use native.Mathlib.Omega.{arith}
 use borrow.Author.Tests.{lt-ltb, le-ltb, ltb-false, eq-eqb, ne-eqb}
-use lib.Dec.{eqb, ltb}
+use lib.Dec.{ltb}
 use lib.ListN.{length, drop}
 use Rattle.bitset.specs.Words.{bytesOf}
-use Rattle.bitset.proofs.Laws.Bytes.{length-bytesOf}
 use Rattle.deduction.specs.Run.{Verdict, knowledge}
 use Rattle.dag.specs.Sheet.{traceLength}
 use Rattle.dag.specs.Record.{entryAt}
@@ -154,5 +153,4 @@ module _ (s : List ℕ) (cut budget : ℕ) (out out′ : List ℕ) (r : Ended) (
   answered-meets =
       subst (λ (o : List ℕ). Meets s cut budget o (verdictCode (verdictOf v) + r .made)) (sym (d .bytes))
       (meets s cut budget (ok-sheet s cut budget (length out) ok) (ok-cut s cut budget (length out) ok) (verdictCode (verdictOf v) + r .made) number-is
-      (bytesOf 32 (knowledge (entryAt s) (outcomeOf s cut budget .learnt) .known)) (drop (32 + 40 * length (outcomeOf s cut budget .steps)) out)
-      (length-bytesOf 32 (knowledge (entryAt s) (outcomeOf s cut budget .learnt) .known)))
+      (drop (32 + 40 * length (outcomeOf s cut budget .steps)) out))

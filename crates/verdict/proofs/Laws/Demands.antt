@@ -1,24 +1,27 @@
 -- The demands of a call that isn't refused, from the theorems over steps and derivations.
--- Shown: `meets`, for a good sheet and the outcome of its run, in whatever buffer the steps are read back. Assumes nothing.
+-- Shown: `meets`, for a good sheet and the outcome of its run, in a buffer of its known set, its steps and whatever follows. Assumes nothing.
 use mathlib.Core.Path.{_≡_, refl, sym, ap, _∙_, subst}
-use mathlib.Core.Bool.{true, false}
+use mathlib.Core.Bool.{true}
 use mathlib.Core.Logic.{_⊎_, inl, inr, ⊎-elim, _↔_}
-use mathlib.Core.List.{List, [], _∷_, _++_, map, List·Memᴰ, List·Memᴰ·not-nil, List·Memᴰ·head, List·Memᴰ·tail, List·Memᴰ·cases-cons, List·Memᴰ·append-cases, List·Memᴰ·eq-of-singleton, Memᴰ·append-left, Memᴰ·append-right, Memᴰ·cast}
-use Prim.Native.Nat.{ℕ, zero, suc, _+_, _*_, _^_, _≤_, _<_}
-use native.Mathlib.Nat.{le-trans, lt-of-lt-of-le, lt-of-le-of-lt, le-of-eq, le-refl}
+use mathlib.Core.List.{List, [], _∷_, _++_, map, List·Memᴰ, List·Memᴰ·not-nil, List·Memᴰ·head, List·Memᴰ·tail, List·Memᴰ·cases-cons, List·Memᴰ·append-cases, List·Memᴰ·eq-of-singleton, Memᴰ·append-right, Memᴰ·cast}
+use Prim.Native.Nat.{ℕ, zero, suc, _+_, _^_, _≤_, _<_}
+use native.Mathlib.Nat.{le-trans, lt-of-lt-of-le, mod-eq-of-lt, le-refl}
 use native.Mathlib.Omega.{arith}
-use lib.ListN.{length, take, drop}
+use lib.ListN.{length, take}
 use lib.Pow.{pow-mono, pow-pos}
+use lib.Seq.{take-at}
 use Rattle.bitset.specs.Set.{member}
+use Rattle.bitset.specs.Words.{setOf, bytesOf}
+use Rattle.bitset.proofs.Laws.Bytes.{length-bytesOf, setOf-bytesOf}
 use Rattle.bitset.proofs.Laws.Sums.{below-members}
 use Rattle.deduction.specs.Term.{Term, sumOf, _≈_}
 use Rattle.deduction.specs.Derivation.{Holds, Derivable}
 use Rattle.deduction.specs.Entry.{Entry, termAt, Downward}
 use Rattle.deduction.specs.Standard.{repAt}
-use Rattle.deduction.specs.Step.{Step, Follows, IsNext, Made}
-use Rattle.deduction.specs.Run.{Verdict, derivable, underivable, exhausted, Outcome, run}
+use Rattle.deduction.specs.Step.{Step, Follows, Made}
+use Rattle.deduction.specs.Run.{Verdict, derivable, underivable, exhausted, Outcome, knowledge}
 use Rattle.deduction.specs.Replay.{Replays, endState}
-use Rattle.deduction.proofs.Steps.{Heads, made, learnt-steps, learnt-heads, steps-le, steps-budget, exhausted-exact, run-enough, trace-run-replays, trace-underivable-exact, trace-underivable-iff, trace-heads}
+use Rattle.deduction.proofs.Steps.{Heads, made, learnt-steps, learnt-heads, known-set, steps-le, exhausted-exact, run-enough, trace-run-replays, trace-underivable-exact, trace-underivable-iff, trace-heads}
 use Rattle.deduction.proofs.Standard.{rep-equal}
 use Rattle.dag.specs.Sheet.{countOf, goalOf, traceAt, traceLength, traceOf, listed}
 use Rattle.dag.specs.Record.{entryAt}
@@ -26,7 +29,7 @@ use Rattle.dag.specs.Refusal.{refusal}
 use Rattle.dag.proofs.Laws.Good.{Good, good}
 use Rattle.derive.specs.Bytes.{stepsBytes}
 use Rattle.verdict.specs.Answer.{startOf, outcomeOf, verdictCode}
-use Rattle.verdict.specs.Demands.{startTerms, goalTerm, startHeads, stepsIn, Passes, Reached, OutOfReach, Stopped, Meets}
+use Rattle.verdict.specs.Demands.{startTerms, goalTerm, startHeads, stepsIn, Reached, OutOfReach, Stopped, Meets}
 use Rattle.verdict.proofs.Laws.Readback.{Narrow, read-back}
 
 -- the set of a step that follows has members below n only
@@ -103,6 +106,28 @@ module _ (s : List ℕ) (cut budget : ℕ) (ok : refusal s ≡ 0) (within : cut 
   run-narrow : (r : Step) → List·Memᴰ r (o .steps) → Narrow r
   run-narrow = made-narrow (entryAt s) (countOf s) (g .downward) (g .few) run-made (λ i m. heads i m .0)
 
+  -- the set of the known heads, and the bytes that hold it
+  abbrev gained : ℕ
+  gained = knowledge (entryAt s) (o .learnt) .known
+
+  run-learnt : o .learnt ≡ startHeads s cut ++ map (λ (r : Step). r .head) (o .steps)
+  unfolding outcomeOf startOf
+  run-learnt = learnt-steps (entryAt s) (countOf s) (g .downward) (g .few) (goalOf s) budget (startHeads s cut) heads
+
+  run-known : (e : ℕ) → (member gained e ≡ true) ↔ List·Memᴰ e (o .learnt)
+  unfolding outcomeOf startOf
+  run-known = known-set (entryAt s) (countOf s) (g .downward) (g .few) (goalOf s) budget (startHeads s cut) heads
+
+  run-below : gained < 2 ^ 256
+  unfolding outcomeOf startOf
+  run-below = lt-of-lt-of-le (below-members (countOf s) gained (λ e m. all-heads e (run-known e .0 m) .0)) (pow-mono (g .few))
+    where
+      all-heads : Heads (entryAt s) (countOf s) (o .learnt)
+      all-heads = learnt-heads (entryAt s) (countOf s) (g .downward) (g .few) (goalOf s) budget (startHeads s cut) heads
+
+  known-read : (rest : List ℕ) → setOf (take 32 (bytesOf 32 gained ++ rest)) ≡ gained
+  known-read rest = ap setOf (take-at (bytesOf 32 gained) rest 32 (length-bytesOf 32 gained)) ∙ setOf-bytesOf 32 gained ∙ mod-eq-of-lt run-below
+
   run-few : length (o .steps) ≤ countOf s
   unfolding outcomeOf startOf
   run-few = steps-le (entryAt s) (countOf s) (g .downward) (g .few) (goalOf s) budget (startHeads s cut) heads
@@ -131,7 +156,7 @@ module _ (s : List ℕ) (cut budget : ℕ) (ok : refusal s ≡ 0) (within : cut 
   unfolding outcomeOf startOf
   run-stopped p =
       let (q, unknown, (r, f)) = exhausted-exact (entryAt s) (countOf s) (g .downward) (g .few) (goalOf s) budget (startHeads s cut) heads p in
-      let l = learnt-steps (entryAt s) (countOf s) (g .downward) (g .few) (goalOf s) budget (startHeads s cut) heads in (
+      let l = run-learnt in (
         q,
         (λ h. unknown (held-known (entryAt s) (countOf s) (g .downward) (o .learnt) (learnt-heads (entryAt s) (countOf s) (g .downward) (g .few) (goalOf s) budget (startHeads s cut) heads) (goalOf s) (g .goal)
             (subst (λ (es : List ℕ). Holds (map (termAt (entryAt s)) es) (goalTerm s)) (sym l) h))),
@@ -181,13 +206,16 @@ module _ (s : List ℕ) (cut budget : ℕ) (ok : refusal s ≡ 0) (within : cut 
     settled l n exhausted p = absurd (run-ends l p)
 
     -- the demands, read off the buffer
-    pub meets : (front rest : List ℕ) → length front ≡ 32 → Meets s cut budget (front ++ (stepsBytes (outcomeOf s cut budget .steps) ++ rest)) answer
-    meets front rest h =
-        let out = front ++ (stepsBytes (o .steps) ++ rest) in
-        let back : o .steps ≡ stepsIn out (length (o .steps)) = sym (read-back front (o .steps) rest h run-narrow) in
+    pub meets : (rest : List ℕ) → Meets s cut budget (bytesOf 32 gained ++ (stepsBytes (o .steps) ++ rest)) answer
+    meets rest =
+        let out = bytesOf 32 gained ++ (stepsBytes (o .steps) ++ rest) in
+        let back : o .steps ≡ stepsIn out (length (o .steps)) = sym (read-back (bytesOf 32 gained) (o .steps) rest (length-bytesOf 32 gained) run-narrow) in
         record {
           count = length (o .steps);
           kinds = kind (o .verdict) refl;
+          known = subst (λ (es : List ℕ). (e : ℕ) → (member (setOf (take 32 out)) e ≡ true) ↔ List·Memᴰ e es)
+              (run-learnt ∙ ap (λ (ss : List Step). startHeads s cut ++ map (λ (r : Step). r .head) ss) back)
+              (subst (λ (u : ℕ). (e : ℕ) → (member u e ≡ true) ↔ List·Memᴰ e (o .learnt)) (sym (known-read (stepsBytes (o .steps) ++ rest))) run-known);
           ordered = subst (Made (termAt (entryAt s)) (countOf s) (startHeads s cut)) back run-made;
           exact = λ l. ((λ h. run-iff l .0 (is-out h)), λ n. (as-verdict underivable (run-iff l .1 n), few-steps));
           otherwise = λ l n. settled l n (o .verdict) refl;
