@@ -39,13 +39,13 @@ fn hear(
     cut: u16,
     sets: &[[u64; 4]; 256],
     reps: &[u8; 256],
-    rows: &mut [u64; 2048],
+    rows: &mut [[u64; 4]; 512],
     remainders: &mut [[u64; 4]; 256],
 ) -> Knowledge
     requires { ⌜ Heard (now s) cut (now sets) (now reps) (now rows) (now remainders) ⌝ }
     ensures state { λ r. ⌜ stateOf (r .known) (now (rows .exit)) (r .len) ≡ knowledge (entryAt (now (s .entry))) (startOf (now (s .entry)) cut) ⌝ }
     ensures room { λ r. ⌜ Room (r .known) (r .len) ⌝ }
-    ensures sizes { λ _. ⌜ (length (now (rows .exit)) ≡ 2048) × (length (now (remainders .exit)) ≡ 256) ⌝ }
+    ensures sizes { λ _. ⌜ (length (now (rows .exit)) ≡ 512) × (length (now (remainders .exit)) ≡ 256) ⌝ }
     ensures cache { λ r. ⌜ Remainders (setAt (entryAt (now (s .entry)))) (countOf (now (s .entry))) (now (rows .exit)) (r .len) (now (remainders .exit)) ⌝ }
 {
     let n = sheet::count(s) as usize;
@@ -71,7 +71,7 @@ fn decide(s: &[u8], cut: u16, budget: u16, out: &mut [u8]) -> Ended
     let mut keys = [0u64; 256];
     let mut sets = [[0u64; 4]; 256];
     let mut reps = [0u8; 256];
-    let mut rows = [0u64; 2048];
+    let mut rows = [[0u64; 4]; 512];
     canonical::tables(s, &mut keys, &mut sets, &mut reps);
     let mut remainders = sets;
     let start = hear(s, cut, &sets, &reps, &mut rows, &mut remainders);

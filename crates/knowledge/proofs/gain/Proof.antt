@@ -1,13 +1,12 @@
 -- `knowledge::gain` meets its contract: a row that was added is taken off every remainder.
 use mathlib.Core.Path.{_≡_, sym, _∙_, subst}
 use mathlib.Core.Logic.{⊎-elim}
-use mathlib.Core.List.{List}
-use Prim.Native.Nat.{ℕ, _+_, _*_, _≤_, _<_}
+use Prim.Native.Nat.{ℕ, _+_, _*_, _<_}
 use native.Mathlib.Nat.{le-refl}
 use native.Mathlib.Omega.{arith}
 use mir.Syntax.{w64}
 use mir.Val.{Fits}
-use lib.ListN.{length, getD}
+use lib.ListN.{getD}
 use borrow.Author.Needs.{needs}
 use denote.Ref.{now}
 use Rattle.bitset.specs.Words.{value}
@@ -46,8 +45,8 @@ sweep-requires c κs = let m = c .before .before .before .before in
 returns : tie.Need-returns
 returns c = let m = c .before .before .before .before .before in
     let s = m .before .before .args in
-    let ws = m .hear .last .1 .0 in
-    let rs = now (s .remainders) in (
+    let rs = m .hear .last .1 .0 in
+    let ts = now (s .remainders) in (
       m .hear .ensures .0,
       (
         m .hear .ensures .1 .0,
@@ -55,9 +54,9 @@ returns c = let m = c .before .before .before .before .before in
           m .hear .ensures .1 .1,
           (
             λ f h.
-                subst (λ (k : ℕ). Remainders f (s .n) ws k (c .sweep .last .0)) (sym (grown (c .before .before .before)))
-                (remainders-swept f (s .n) ws (s .len) rs (c .sweep .last .0) (c .sweep .ensures .0)
-                (remainders-kept f (s .n) (s .len) rs (le-refl (8 * s .len)) (m .hear .ensures .1 .1) h)),
+                subst (λ (k : ℕ). Remainders f (s .n) rs k (c .sweep .last .0)) (sym (grown (c .before .before .before)))
+                (remainders-swept f (s .n) rs (s .len) ts (c .sweep .last .0) (c .sweep .ensures .0)
+                (remainders-kept f (s .n) (s .len) ts (le-refl (2 * s .len)) (m .hear .ensures .1 .1) h)),
             c .sweep .ensures .1,
           ),
         ),
@@ -75,7 +74,7 @@ returns-2 c = let m = c .before .before in
           (
             λ f h.
                 subst (λ (k : ℕ). Remainders f (s .n) (m .hear .last .1 .0) k (now (s .remainders))) (sym (c .if1 .left))
-                (remainders-kept f (s .n) (s .len) (now (s .remainders)) (le-refl (8 * s .len)) (m .hear .ensures .1 .1) h),
+                (remainders-kept f (s .n) (s .len) (now (s .remainders)) (le-refl (2 * s .len)) (m .hear .ensures .1 .1) h),
             same-refl 0 (s .n) (now (s .remainders)),
           ),
         ),

@@ -24,12 +24,12 @@ unfolding startOf listed
 start-more s k = ap (λ (n : ℕ). map (repAt (entryAt s)) (listed (traceAt s) n)) (add-one k) ∙ map-append (repAt (entryAt s)) (listed (traceAt s) k) (traceAt s k ∷ [])
 
 -- before the first message nothing is known
-pub hear-none : (s known rows : List ℕ) → value known ≡ 0 → stateOf known rows 0 ≡ knowledge (entryAt s) (startOf s 0)
+pub hear-none : (s known : List ℕ) (rows : List (List ℕ)) → value known ≡ 0 → stateOf known rows 0 ≡ knowledge (entryAt s) (startOf s 0)
 unfolding knowledge learnAll nothing startOf listed rowsOf
 hear-none s known rows p = λ i. record { known = p i; rows = [] }
 
 -- one message more
-pub hear-more : (s : List ℕ) (k : ℕ) (known rows : List ℕ) (len h v : ℕ) (more rows′ : List ℕ) (len′ : ℕ) → stateOf known rows len ≡ knowledge (entryAt s) (startOf s k)
+pub hear-more : (s : List ℕ) (k : ℕ) (known : List ℕ) (rows : List (List ℕ)) (len h v : ℕ) (more : List ℕ) (rows′ : List (List ℕ)) (len′ : ℕ) → stateOf known rows len ≡ knowledge (entryAt s) (startOf s k)
     → h ≡ repAt (entryAt s) (traceAt s k) → v ≡ setAt (entryAt s) h → stateOf more rows′ len′ ≡ learnAs (stateOf known rows len) h v
     → stateOf more rows′ len′ ≡ knowledge (entryAt s) (startOf s (k + 1))
 unfolding knowledge
@@ -38,7 +38,7 @@ hear-more s k known rows len h v more rows′ len′ before head set after =
     ∙ sym (learnAll-more (setAt (entryAt s)) nothing (startOf s k) (repAt (entryAt s) (traceAt s k))) ∙ ap (knowledge (entryAt s)) (sym (start-more s k))
 
 -- the head of message k, as the table has it
-module _ {s : List ℕ} {cut : ℕ} {sets : List (List ℕ)} {reps rows : List ℕ} {remainders : List (List ℕ)} (r : Heard s cut sets reps rows remainders) (k : ℕ) (h : k < cut) where
+module _ {s : List ℕ} {cut : ℕ} {sets : List (List ℕ)} {reps : List ℕ} {rows remainders : List (List ℕ)} (r : Heard s cut sets reps rows remainders) (k : ℕ) (h : k < cut) where
   listed-below : traceAt s k < countOf s
   listed-below = good s (r .good) .listed k (le-trans h (r .within))
 

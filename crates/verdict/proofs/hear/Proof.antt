@@ -25,7 +25,7 @@ use Rattle.verdict.proofs.hear.Tie as tie
 abbrev Inv-loop : tie.InvT-loop
 Inv-loop s cut sets reps rows₀ remainders₀ n known₀ len₀ k₀ rows remainders known len k =
     (n ≡ countOf s) × (k ≤ cut) × Heard s cut sets reps rows₀ remainders₀ × (stateOf known rows len ≡ knowledge (entryAt s) (startOf s k)) × Room known len
-    × (length rows ≡ 2048) × (length remainders ≡ 256) × Remainders (setAt (entryAt s)) (countOf s) rows len remainders
+    × (length rows ≡ 512) × (length remainders ≡ 256) × Remainders (setAt (entryAt s)) (countOf s) rows len remainders
 
 abbrev μ-loop : tie.MeasureT-loop
 μ-loop s cut sets reps rows₀ remainders₀ n known₀ len₀ k₀ rows remainders known len k =

@@ -37,8 +37,8 @@ member-requires c κs = search needs
 
 returns : tie.Need-returns
 returns c = let s = c .before .before .before in
-    let ws = now (s .args .rows) in
-    (learn-again (stateOf (s .args .self .known) ws (s .args .self .len)) (s .args .e) (value (s .args .set)) (sym (c .before .member .ensures) ∙ c .if1 .taken), (s .pre .1, same-refl (8 * s .args .self .len) (8 * s .args .self .len) ws))
+    let rs = now (s .args .rows) in
+    (learn-again (stateOf (s .args .self .known) rs (s .args .self .len)) (s .args .e) (value (s .args .set)) (sym (c .before .member .ensures) ∙ c .if1 .taken), (s .pre .1, same-refl (2 * s .args .self .len) (2 * s .args .self .len) rs))
 
 insert-requires : tie.Need-insert-requires
 insert-requires c κs = search needs
@@ -53,10 +53,10 @@ returns-2 : tie.Need-returns-2
 returns-2 c = let a = c .before in
     let m = a .before .before .before .before in
     let s = m .before .before .before .before in
-    let ws = now (s .args .rows) in
+    let rs = now (s .args .rows) in
     let x = a .before .before .reduce in (
-      state-sum (s .args .self .known) ws (s .args .self .len) (s .args .e) (value (s .args .set)) (reducedOf (x .result .remainder) (x .result .used)) (new (m .before)) (x .ensures) (m .insert .result) (m .insert .ensures) (sym (a .is-empty .ensures) ∙ c .if2 .taken),
-      (omega (arith, room m), same-refl (8 * s .args .self .len) (8 * s .args .self .len) ws),
+      state-sum (s .args .self .known) rs (s .args .self .len) (s .args .e) (value (s .args .set)) (reducedOf (x .result .remainder) (x .result .used)) (new (m .before)) (x .ensures) (m .insert .result) (m .insert .ensures) (sym (a .is-empty .ensures) ∙ c .if2 .taken),
+      (omega (arith, room m), same-refl (2 * s .args .self .len) (2 * s .args .self .len) rs),
     )
 
 singleton-requires : tie.Need-singleton-requires
@@ -76,9 +76,9 @@ returns-3 c = let o = c .before .before .before .before .before in
     let a = o .before in
     let m = a .before .before .before .before in
     let s = m .before .before .before .before in
-    let ws = now (s .args .rows) in
+    let rs = now (s .args .rows) in
     let x = a .before .before .reduce in (
-      state-row (s .args .self .known) ws (s .args .self .len) (s .args .e) (value (s .args .set)) (reducedOf (x .result .remainder) (x .result .used)) (new (m .before)) (x .ensures) (m .insert .result) (m .insert .ensures) (sym (a .is-empty .ensures) ∙ o .if2 .left) (c .push .last .0)
+      state-row (s .args .self .known) rs (s .args .self .len) (s .args .e) (value (s .args .set)) (reducedOf (x .result .remainder) (x .result .used)) (new (m .before)) (x .ensures) (m .insert .result) (m .insert .ensures) (sym (a .is-empty .ensures) ∙ o .if2 .left) (c .push .last .0)
           (c .push .ensures .0 ∙ ap (λ (n : ℕ). record { vector = value (x .result .remainder); uses = n }) (c .before .before .sum .ensures ∙ ap (bitXor (value (x .result .used))) (c .before .before .before .singleton .ensures))) (c .push .ensures .1),
       (room m, c .push .ensures .1),
     )
