@@ -5,3 +5,4 @@ pub mod Pairs
 pub mod Parts
 pub mod Table
 pub mod Good
+pub mod Code

@@ -3,3 +3,4 @@ pub mod Demands
 pub mod Hearing
 pub mod Decide
 pub mod Answered
+pub mod Code

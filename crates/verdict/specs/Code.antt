@@ -1,4 +1,5 @@
--- The number of an answer for callers in C.
+-- The number of an answer for callers in C, and the count in it. Where the count is at most 256 the number names the answer: `number-names`
+-- (proofs/Laws/Code.antt).
 use Prim.Native.Nat.{ℕ, _+_}
 use Rattle.dag.specs.Code.{codeOf}
 use Rattle.verdict.specs.declared.Answer.{Answer}
@@ -9,3 +10,9 @@ numberOf (Refused r) = codeOf r
 numberOf (Derivable n) = 1000 + n
 numberOf (Underivable n) = 2000 + n
 numberOf (Exhausted n) = 3000 + n
+
+abbrev pub madeIn : Answer → ℕ
+madeIn (Refused r) = 0
+madeIn (Derivable n) = n
+madeIn (Underivable n) = n
+madeIn (Exhausted n) = n

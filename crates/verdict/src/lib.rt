@@ -17,7 +17,7 @@ ghost use Rattle.derive.specs.Ran.{verdictOf};
 ghost use Rattle.derive.specs.Bytes.{stepsBytes};
 ghost use Rattle.verdict.specs.Answer.{refusalOf, startOf, outcomeOf, answerOf, bufferOf};
 ghost use Rattle.verdict.specs.Demands.{Meets};
-ghost use Rattle.verdict.specs.Code.{numberOf};
+ghost use Rattle.verdict.specs.Code.{numberOf, madeIn};
 ghost use Rattle.verdict.specs.Inner.{Heard, Decided};
 use dag::Refusal;
 use dag::sheet;
@@ -116,6 +116,7 @@ fn refused(sheet: &[u8], cut: u32, budget: u32, space: usize) -> Refusal
 // The verdict call. A refusal leaves every byte of out; otherwise out gets the known set, 40 bytes a step, and keeps its later bytes.
 pub fn verdict(sheet: &[u8], cut: u32, budget: u32, out: &mut [u8]) -> Answer
     ensures answer { λ r. ⌜ numberOf r ≡ answerOf (now (sheet .entry)) cut budget (length (now (out .entry))) ⌝ }
+    ensures few { λ r. ⌜ madeIn r ≤ 256 ⌝ }
     ensures bytes { λ _. ⌜ now (out .exit) ≡ bufferOf (now (sheet .entry)) cut budget (now (out .entry)) ⌝ }
     ensures demands { λ r. ⌜ (refusalOf (now (sheet .entry)) cut budget (length (now (out .entry))) ≡ 0 → Meets (now (sheet .entry)) cut budget (now (out .exit)) (numberOf r)) ⌝ }
 {

@@ -3,6 +3,7 @@ use mathlib.Core.Path.{_≡_, sym, ap, ap₂, _∙_, subst}
 use mathlib.Core.Bool.{Bool, cond}
 use mathlib.Core.List.{List, _++_}
 use Prim.Native.Nat.{ℕ, _+_, _*_, _≤_, _<_}
+use native.Mathlib.Nat.{le-trans, le-of-eq}
 use native.Mathlib.Omega.{arith}
 use borrow.Author.Tests.{lt-ltb, le-ltb, ltb-false, eq-eqb, ne-eqb}
 use lib.Dec.{ltb}
@@ -20,7 +21,7 @@ use Rattle.derive.specs.declared.run.Verdict as program
 use Rattle.verdict.specs.Answer.{refusalOf, outcomeOf, verdictCode, answerOf, bufferOf}
 use Rattle.verdict.specs.Demands.{Meets}
 use Rattle.verdict.specs.Inner.{Decided}
-use Rattle.verdict.proofs.Laws.Demands.{meets}
+use Rattle.verdict.proofs.Laws.Demands.{few-steps, meets}
 
 module _ (s : List ℕ) (cut budget space : ℕ) where
   row8 : ℕ
@@ -121,7 +122,12 @@ refused-buffer s cut budget old n =
     old)
     (ne-eqb (refusalOf s cut budget (length old)) 0 n))
 
--- a call that isn't refused
+-- a call that isn't refused: at most 256 steps
+pub answered-few : (s : List ℕ) (cut budget : ℕ) (out out′ : List ℕ) (r : Ended) → Decided s cut budget out out′ r → refusalOf s cut budget (length out) ≡ 0 → r .made ≤ 256
+answered-few s cut budget out out′ r d ok =
+    le-trans (le-of-eq (d .count)) (few-steps s cut budget (ok-sheet s cut budget (length out) ok) (ok-cut s cut budget (length out) ok))
+
+-- its answer and its buffer
 module _ (s : List ℕ) (cut budget : ℕ) (out out′ : List ℕ) (r : Ended) (d : Decided s cut budget out out′ r) (ok : refusalOf s cut budget (length out) ≡ 0) (v : program.Verdict) (is : r .verdict ≡ v) where
   number-is : verdictCode (verdictOf v) + r .made ≡ verdictCode (outcomeOf s cut budget .verdict) + length (outcomeOf s cut budget .steps)
   number-is = ap₂ (λ (w : Verdict) (k : ℕ). verdictCode w + k) (ap verdictOf (sym is) ∙ d .verdict) (d .count)

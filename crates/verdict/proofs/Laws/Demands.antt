@@ -132,6 +132,9 @@ module _ (s : List ℕ) (cut budget : ℕ) (ok : refusal s ≡ 0) (within : cut 
   unfolding outcomeOf startOf
   run-few = steps-le (entryAt s) (countOf s) (g .downward) (g .few) (goalOf s) budget (startHeads s cut) heads
 
+  pub few-steps : length (o .steps) ≤ 256
+  few-steps = le-trans run-few (g .few)
+
   run-passes : o .verdict ≡ derivable → (end : List Term) × Replays (termAt (entryAt s)) (countOf s) (startTerms s cut) (o .steps) end × Holds end (goalTerm s)
   unfolding outcomeOf startOf
   run-passes p =
@@ -167,9 +170,6 @@ module _ (s : List ℕ) (cut budget : ℕ) (ok : refusal s ≡ 0) (within : cut 
   module _ (answer : ℕ) (is : answer ≡ verdictCode (o .verdict) + length (o .steps)) where
     as-verdict : (v : Verdict) → o .verdict ≡ v → answer ≡ verdictCode v + length (o .steps)
     as-verdict v p = is ∙ ap (λ (w : Verdict). verdictCode w + length (o .steps)) p
-
-    few-steps : length (o .steps) ≤ 256
-    few-steps = le-trans run-few (g .few)
 
     is-reached : Reached answer (length (o .steps)) → o .verdict ≡ derivable
     is-reached h = go (o .verdict) refl
