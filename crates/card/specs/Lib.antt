@@ -1,5 +1,3 @@
--- Reading order: numbers in decimal, the words of the card, its lines, and what writing them into a buffer does.
-pub mod Decimal
-pub mod Words
-pub mod Line
+-- Reading order: the whole card, and what printing it into a buffer does.
+pub mod Card
 pub mod Buffer

@@ -1,188 +1,104 @@
-// The flight card's text: each printed line, made in a lent buffer, byte by byte.
-// A line stands at the front of the buffer, and the answer is its length; a buffer of under 2048 bytes is left as it was, and the answer is 0.
+// The card of a sheet, made in a lent buffer, byte by byte.
 ghost use mathlib.Core.Path.{_≡_};
-ghost use mathlib.Core.List.{_++_};
-ghost use Prim.Native.Nat.{_+_, _≤_};
+ghost use mathlib.Core.Bool.{true, not};
+ghost use Prim.Native.Nat.{_+_, _*_, _≤_};
 ghost use lib.ListN.{length};
-ghost use Rattle.bitset.specs.Words.{value};
-ghost use Rattle.card.specs.Decimal.{decimal};
-ghost use Rattle.card.specs.Line.{spaced, field, source, sources, ruleText, pairLine, goalLine, outLine, stoppedLine, reachedLine, stepLine, refusedLine};
-ghost use Rattle.card.specs.Buffer.{Appended, Printed};
+ghost use Rattle.dag.specs.Sheet.{traceLength};
+ghost use Rattle.dag.specs.Refusal.{refusal};
+ghost use Rattle.verdict.specs.Answer.{outcomeOf};
+ghost use Rattle.verdict.specs.Demands.{readStep, stepsIn};
+ghost use Rattle.card.specs.Card.{stepText, stepsText, cutText, isReached, cutsFrom, cardOf};
+ghost use Rattle.line.specs.Buffer.{Appended};
+ghost use Rattle.card.specs.Buffer.{Printed};
+use dag::sheet;
 
-// Appends a word.
-fn text(out: &mut [u8], at: usize, word: &[u8]) -> usize
-    requires { ⌜ at + length (now word) ≤ length (now out) ⌝ }
-    ensures { λ r. ⌜ Appended (now (out .entry)) at (now (word .entry)) (now (out .exit)) r ⌝ }
-{
-    let mut i: usize = 0;
-    while i < word.len() {
-        out[at + i] = word[i];
-        i += 1;
-    }
-    at + i
+// The place after what was printed of a cut, and whether the next cut is to be printed.
+struct Shown {
+    end: usize,
+    more: bool,
 }
 
-// Appends a number in decimal: the digits of its tenth part, then its last digit.
-fn decimal(out: &mut [u8], at: usize, x: u32) -> usize
-    requires { ⌜ at + length (decimal x) ≤ length (now out) ⌝ }
-    ensures { λ r. ⌜ Appended (now (out .entry)) at (decimal x) (now (out .exit)) r ⌝ }
+// Appends the line of the rung at the front of step.
+fn append_step(out: &mut [u8], at: usize, step: &[u8]) -> usize
+    requires { ⌜ (at + 1050 ≤ length (now out)) × (40 ≤ length (now step)) ⌝ }
+    ensures text { λ r. ⌜ Appended (now (out .entry)) at (stepText (readStep (now (step .entry)))) (now (out .exit)) r ⌝ }
+    ensures short { λ r. ⌜ r ≤ at + 1050 ⌝ }
 {
-    if x < 10 {
-        out[at] = 48 + (x as u8);
-        return at + 1;
-    }
-    let end = decimal(out, at, x / 10);
-    out[end] = 48 + ((x % 10) as u8);
-    end + 1
+    let head = sheet::number_at(step, 0);
+    let rule = sheet::number_at(step, 2);
+    let first = sheet::number_at(step, 4);
+    let second = sheet::number_at(step, 6);
+    let set = bitset::read(&step[8..]);
+    line::step_line(out, at, head, rule, first, second, set)
 }
 
-// Appends a space and a number.
-fn number(out: &mut [u8], at: usize, x: u32) -> usize
-    requires { ⌜ at + length (spaced x) ≤ length (now out) ⌝ }
-    ensures { λ r. ⌜ Appended (now (out .entry)) at (spaced x) (now (out .exit)) r ⌝ }
-{
-    let a = text(out, at, b" ");
-    decimal(out, a, x)
-}
-
-// Appends a word, a space and a number.
-fn field(out: &mut [u8], at: usize, word: &[u8], x: u32) -> usize
-    requires { ⌜ at + length (field (now word) x) ≤ length (now out) ⌝ }
-    ensures { λ r. ⌜ Appended (now (out .entry)) at (field (now (word .entry)) x) (now (out .exit)) r ⌝ }
-{
-    let a = text(out, at, word);
-    number(out, a, x)
-}
-
-// Appends what entry e adds to the sources of a sum.
-fn source(out: &mut [u8], at: usize, set: [u64; 4], e: u8) -> usize
-    requires { ⌜ at + length (source (value set) e) ≤ length (now out) ⌝ }
-    ensures { λ r. ⌜ Appended (now (out .entry)) at (source (value set) e) (now (out .exit)) r ⌝ }
-{
-    if bitset::member(set, e) {
-        return number(out, at, e as u32);
-    }
-    at
-}
-
-// Appends the sources of a sum, in rising order.
-fn sources(out: &mut [u8], at: usize, set: [u64; 4]) -> usize
-    requires { ⌜ at + 1024 ≤ length (now out) ⌝ }
-    ensures { λ r. ⌜ Appended (now (out .entry)) at (sources (value set) 256) (now (out .exit)) r ⌝ }
+// Appends the lines of the first n rungs of a buffer.
+fn append_steps(out: &mut [u8], at: usize, buffer: &[u8], n: u16) -> usize
+    requires { ⌜ (n ≤ 256) × (32 + 40 * n ≤ length (now buffer)) × (at + 1050 * n ≤ length (now out)) ⌝ }
+    ensures { λ r. ⌜ Appended (now (out .entry)) at (stepsText (stepsIn (now (buffer .entry)) n)) (now (out .exit)) r ⌝ }
 {
     let mut end = at;
-    let mut e: u16 = 0;
-    while e < 256 {
-        end = source(out, end, set, e as u8);
-        e += 1;
+    let mut i: u16 = 0;
+    while i < n {
+        let from = 32 + 40 * (i as usize);
+        end = append_step(out, end, &buffer[from..]);
+        i += 1;
     }
     end
 }
 
-// Appends a word and two sources.
-fn two(out: &mut [u8], at: usize, word: &[u8], first: u16, second: u16) -> usize
-    requires { ⌜ at + length (field (now word) first ++ spaced second) ≤ length (now out) ⌝ }
-    ensures { λ r. ⌜ Appended (now (out .entry)) at (field (now (word .entry)) first ++ spaced second) (now (out .exit)) r ⌝ }
+// Appends what is printed of a cut: its line, and where the goal is reached the rungs.
+fn append_cut(out: &mut [u8], at: usize, sheet: &[u8], cut: u16, buffer: &mut [u8]) -> Shown
+    requires { ⌜ (refusal (now sheet) ≡ 0) × (cut ≤ traceLength (now sheet)) × (length (now buffer) ≡ 10272) × (at + 268864 ≤ length (now out)) ⌝ }
+    ensures text { λ r. ⌜ Appended (now (out .entry)) at (cutText (now (sheet .entry)) cut) (now (out .exit)) (r .end) ⌝ }
+    ensures short { λ r. ⌜ (r .more ≡ true → r .end ≤ at + 64) ⌝ }
+    ensures more { λ r. ⌜ r .more ≡ not (isReached (outcomeOf (now (sheet .entry)) cut 256 .verdict)) ⌝ }
+    ensures size { λ _. ⌜ length (now (buffer .exit)) ≡ 10272 ⌝ }
 {
-    let a = field(out, at, word, first as u32);
-    number(out, a, second as u32)
+    let answer = verdict::zuwendryk_verdict(sheet, cut as u32, 256, buffer);
+    if answer < 2000 {
+        let made = (answer - 1000) as u16;
+        let start = line::reached_line(out, at, cut, made);
+        let end = append_steps(out, start, buffer, made);
+        return Shown { end, more: false };
+    }
+    let known = bitset::count(bitset::read(buffer));
+    let end = line::out_line(out, at, cut, known);
+    Shown { end, more: true }
 }
 
-// Appends a rule's word and its sources, by the rule's number; nothing for a number that no rule has.
-fn rule_text(out: &mut [u8], at: usize, rule: u16, first: u16, second: u16, set: [u64; 4]) -> usize
-    requires { ⌜ at + 1100 ≤ length (now out) ⌝ }
-    ensures { λ r. ⌜ Appended (now (out .entry)) at (ruleText rule first second (value set)) (now (out .exit)) r ⌝ }
+// Appends the cuts from 0 to the last, up to the first at which the goal is reached.
+fn append_cuts(out: &mut [u8], at: usize, sheet: &[u8], last: u16) -> usize
+    requires { ⌜ (refusal (now sheet) ≡ 0) × (last ≡ traceLength (now sheet)) × (at + 290000 ≤ length (now out)) ⌝ }
+    ensures { λ r. ⌜ Appended (now (out .entry)) at (cutsFrom (now (sheet .entry)) 0 (last + 1)) (now (out .exit)) r ⌝ }
 {
-    if rule == 1 {
-        return field(out, at, b" left", first as u32);
+    let mut buffer = [0u8; 10272];
+    let mut end = at;
+    let mut cut: u16 = 0;
+    while cut <= last {
+        let shown = append_cut(out, end, sheet, cut, &mut buffer);
+        end = shown.end;
+        if !shown.more {
+            return end;
+        }
+        cut += 1;
     }
-    if rule == 2 {
-        return field(out, at, b" right", first as u32);
-    }
-    if rule == 3 {
-        return two(out, at, b" open", first, second);
-    }
-    if rule == 4 {
-        return two(out, at, b" join", first, second);
-    }
-    if rule == 5 {
-        return two(out, at, b" seal", first, second);
-    }
-    if rule == 6 {
-        let a = text(out, at, b" sum");
-        return sources(out, a, set);
-    }
-    at
+    end
 }
 
-// A line of two words with a number after each.
-fn pair_line(out: &mut [u8], before: &[u8], a: u32, between: &[u8], b: u32) -> usize
-    requires { ⌜ length (now before) + length (now between) ≤ 2000 ⌝ }
-    ensures { λ r. ⌜ Printed (pairLine (now (before .entry)) a (now (between .entry)) b) (now (out .entry)) (now (out .exit)) r ⌝ }
+// The card of a sheet, or its refusal, at the front of out; the answer is its length. A buffer of under 300,000 bytes is left as it was, and the
+// answer is 0.
+pub fn card(sheet: &[u8], out: &mut [u8]) -> usize
+    ensures { λ r. ⌜ Printed 300000 (cardOf (now (sheet .entry))) (now (out .entry)) (now (out .exit)) r ⌝ }
 {
-    if out.len() < 2048 {
+    if out.len() < 300000 {
         return 0;
     }
-    let i = field(out, 0, before, a);
-    let j = field(out, i, between, b);
-    text(out, j, b"\n")
-}
-
-// goal G heard H
-pub fn goal_line(out: &mut [u8], goal: u16, trace: u16) -> usize
-    ensures { λ r. ⌜ Printed (goalLine goal trace) (now (out .entry)) (now (out .exit)) r ⌝ }
-{
-    pair_line(out, b"goal", goal as u32, b" heard", trace as u32)
-}
-
-// cut C out of reach known K
-pub fn out_line(out: &mut [u8], cut: u16, known: u32) -> usize
-    ensures { λ r. ⌜ Printed (outLine cut known) (now (out .entry)) (now (out .exit)) r ⌝ }
-{
-    pair_line(out, b"cut", cut as u32, b" out of reach known", known)
-}
-
-// cut C stopped rungs R
-pub fn stopped_line(out: &mut [u8], cut: u16, made: u16) -> usize
-    ensures { λ r. ⌜ Printed (stoppedLine cut made) (now (out .entry)) (now (out .exit)) r ⌝ }
-{
-    pair_line(out, b"cut", cut as u32, b" stopped rungs", made as u32)
-}
-
-// cut C reached rungs R
-pub fn reached_line(out: &mut [u8], cut: u16, made: u16) -> usize
-    ensures { λ r. ⌜ Printed (reachedLine cut made) (now (out .entry)) (now (out .exit)) r ⌝ }
-{
-    pair_line(out, b"cut", cut as u32, b" reached rungs", made as u32)
-}
-
-// rung HEAD WORD SOURCES
-pub fn step_line(
-    out: &mut [u8],
-    head: u16,
-    rule: u16,
-    first: u16,
-    second: u16,
-    set: [u64; 4],
-) -> usize
-    ensures { λ r. ⌜ Printed (stepLine head rule first second (value set)) (now (out .entry)) (now (out .exit)) r ⌝ }
-{
-    if out.len() < 2048 {
-        return 0;
+    let refusal = dag::code(dag::validate(sheet));
+    if refusal != 0 {
+        return line::refused_line(out, 0, refusal);
     }
-    let i = field(out, 0, b"rung", head as u32);
-    let end = rule_text(out, i, rule, first, second, set);
-    text(out, end, b"\n")
-}
-
-// refused N
-pub fn refused_line(out: &mut [u8], refusal: u32) -> usize
-    ensures { λ r. ⌜ Printed (refusedLine refusal) (now (out .entry)) (now (out .exit)) r ⌝ }
-{
-    if out.len() < 2048 {
-        return 0;
-    }
-    let i = text(out, 0, b"refused");
-    let last = number(out, i, refusal);
-    text(out, last, b"\n")
+    let last = sheet::trace_len(sheet);
+    let at = line::goal_line(out, 0, sheet::goal(sheet), last);
+    append_cuts(out, at, sheet, last)
 }

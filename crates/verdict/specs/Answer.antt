@@ -2,28 +2,24 @@
 -- Defined: `refusalOf`, `outcomeOf`, `answerOf`, `bufferOf`.
 use Prim.Native.Nat.{ℕ, _+_, _*_}
 use mathlib.Core.Bool.{cond}
-use mathlib.Core.List.{List, _++_, map}
+use mathlib.Core.List.{List, _++_}
 use lib.Dec.{eqb, ltb}
 use lib.ListN.{length, drop}
 use Rattle.bitset.specs.Words.{bytesOf}
-use Rattle.deduction.specs.Standard.{repAt}
 use Rattle.deduction.specs.Run.{Verdict, derivable, underivable, exhausted, Outcome, knowledge, run}
-use Rattle.dag.specs.Sheet.{countOf, traceLength, goalOf, traceOf}
+use Rattle.dag.specs.Sheet.{countOf, traceLength, goalOf}
 use Rattle.dag.specs.Record.{entryAt}
 use Rattle.dag.specs.Refusal.{when, orElse, refusal}
 use Rattle.derive.specs.Bytes.{stepsBytes}
+use Rattle.verdict.specs.Start.{startHeads}
 
 -- rows 1 to 7, then "8 past the log: cut over h", "9 over budget: budget over 256", "10 no space: buffer under 32 + 40b bytes"
 unfoldable pub refusalOf : List ℕ → ℕ → ℕ → ℕ → ℕ
 refusalOf s cut budget space =
     orElse (refusal s) (orElse (when (ltb (traceLength s) cut) 8) (orElse (when (ltb 256 budget) 9) (when (ltb space (32 + 40 * budget)) 10)))
 
--- "At the start exactly the heard messages before the cut are gained, in order, each as its head"
-unfoldable pub startOf : List ℕ → ℕ → List ℕ
-startOf s cut = map (repAt (entryAt s)) (traceOf s cut)
-
 unfoldable pub outcomeOf : List ℕ → ℕ → ℕ → Outcome
-outcomeOf s cut budget = run (entryAt s) (countOf s) (goalOf s) budget (startOf s cut)
+outcomeOf s cut budget = run (entryAt s) (countOf s) (goalOf s) budget (startHeads s cut)
 
 -- "1,000 for reached, 2,000 for out of reach, 3,000 for stopped"
 abbrev pub verdictCode : Verdict → ℕ

@@ -12,22 +12,14 @@ use Rattle.bitset.specs.Words.{setOf}
 use Rattle.deduction.specs.Term.{Term}
 use Rattle.deduction.specs.Derivation.{Holds, Derivable}
 use Rattle.deduction.specs.Entry.{termAt}
-use Rattle.deduction.specs.Standard.{repAt}
 use Rattle.deduction.specs.Step.{Step, step, Follows, Made}
 use Rattle.deduction.specs.Replay.{Replays}
-use Rattle.dag.specs.Sheet.{numberAt, countOf, goalOf, traceOf}
+use Rattle.dag.specs.Sheet.{numberAt, countOf, goalOf}
 use Rattle.dag.specs.Record.{entryAt}
-
--- the terms of the messages before the cut, and the goal's term
-abbrev pub startTerms : List ℕ → ℕ → List Term
-startTerms s cut = map (termAt (entryAt s)) (traceOf s cut)
+use Rattle.verdict.specs.Start.{startHeads, startTerms}
 
 abbrev pub goalTerm : List ℕ → Term
 goalTerm s = termAt (entryAt s) (goalOf s)
-
--- the heads of the messages before the cut, in order
-abbrev pub startHeads : List ℕ → ℕ → List ℕ
-startHeads s cut = map (repAt (entryAt s)) (traceOf s cut)
 
 -- a rung read from 40 bytes: "gained head, rule, first source, second source (2 bytes each) and a 32-byte set of summed sources"
 unfoldable pub readStep : List ℕ → Step

@@ -1,4 +1,5 @@
--- Reading order: the answer and the buffer of a call, as equations; the demands, as one statement about whole derivations.
+-- Reading order: the start; the answer and the buffer of a call, as equations; the demands, as one statement about whole derivations.
+pub mod Start
 pub mod Answer
 pub mod Demands
 pub mod Code

@@ -1,21 +1,17 @@
 // The verdict: can an intruder who heard the messages before the cut derive the goal?
 ghost use mathlib.Core.Path.{_≡_};
-ghost use mathlib.Core.List.{[], _++_};
-ghost use Prim.Native.Nat.{ℕ, _+_, _*_, _≤_, _<_};
-ghost use lib.ListN.{length, getD, take, drop};
-ghost use Rattle.bitset.specs.Words.{value, bytesOf};
+ghost use Prim.Native.Nat.{_+_, _*_, _≤_, _<_};
+ghost use lib.ListN.{length};
 ghost use Rattle.deduction.specs.Standard.{setAt};
 ghost use Rattle.deduction.specs.Run.{knowledge};
 ghost use Rattle.dag.specs.Sheet.{countOf, traceLength};
 ghost use Rattle.dag.specs.Record.{entryAt};
 ghost use Rattle.dag.specs.Refusal.{refusal};
 ghost use Rattle.dag.specs.Code.{codeOf};
-ghost use Rattle.canonical.specs.Tables.{Right, Sized};
 ghost use Rattle.knowledge.specs.Rows.{Remainders};
 ghost use Rattle.knowledge.specs.State.{stateOf, Room};
-ghost use Rattle.derive.specs.Ran.{verdictOf};
-ghost use Rattle.derive.specs.Bytes.{stepsBytes};
-ghost use Rattle.verdict.specs.Answer.{refusalOf, startOf, outcomeOf, answerOf, bufferOf};
+ghost use Rattle.verdict.specs.Answer.{refusalOf, answerOf, bufferOf};
+ghost use Rattle.verdict.specs.Start.{startHeads};
 ghost use Rattle.verdict.specs.Demands.{Meets};
 ghost use Rattle.verdict.specs.Code.{numberOf, madeIn};
 ghost use Rattle.verdict.specs.Inner.{Heard, Decided};
@@ -43,7 +39,7 @@ fn hear(
     remainders: &mut [[u64; 4]; 256],
 ) -> Knowledge
     requires { ⌜ Heard (now s) cut (now sets) (now reps) (now rows) (now remainders) ⌝ }
-    ensures state { λ r. ⌜ stateOf (r .known) (now (rows .exit)) (r .len) ≡ knowledge (entryAt (now (s .entry))) (startOf (now (s .entry)) cut) ⌝ }
+    ensures state { λ r. ⌜ stateOf (r .known) (now (rows .exit)) (r .len) ≡ knowledge (entryAt (now (s .entry))) (startHeads (now (s .entry)) cut) ⌝ }
     ensures room { λ r. ⌜ Room (r .known) (r .len) ⌝ }
     ensures sizes { λ _. ⌜ (length (now (rows .exit)) ≡ 512) × (length (now (remainders .exit)) ≡ 256) ⌝ }
     ensures cache { λ r. ⌜ Remainders (setAt (entryAt (now (s .entry)))) (countOf (now (s .entry))) (now (rows .exit)) (r .len) (now (remainders .exit)) ⌝ }

@@ -7,10 +7,10 @@ use native.Mathlib.Nat.{le-trans, le-of-eq}
 use native.Mathlib.Omega.{arith}
 use borrow.Author.Tests.{lt-ltb, le-ltb, ltb-false, eq-eqb, ne-eqb}
 use lib.Dec.{ltb}
-use lib.ListN.{length, drop}
-use Rattle.bitset.specs.Words.{bytesOf}
-use Rattle.deduction.specs.Run.{Verdict, knowledge}
-use Rattle.dag.specs.Sheet.{traceLength}
+use lib.ListN.{length, take, drop}
+use Rattle.bitset.specs.Words.{bytesOf, setOf}
+use Rattle.deduction.specs.Run.{Verdict, exhausted, Outcome, knowledge}
+use Rattle.dag.specs.Sheet.{countOf, traceLength}
 use Rattle.dag.specs.Record.{entryAt}
 use Rattle.dag.specs.Refusal.{when, orElse, refusal}
 use Rattle.dag.proofs.Laws.Refusal.{when-yes, when-no, when-zero, orElse-none, orElse-some, orElse-zero-left, orElse-zero-right}
@@ -19,9 +19,9 @@ use Rattle.derive.specs.Ran.{verdictOf}
 use Rattle.derive.specs.declared.run.Ended.{Ended}
 use Rattle.derive.specs.declared.run.Verdict as program
 use Rattle.verdict.specs.Answer.{refusalOf, outcomeOf, verdictCode, answerOf, bufferOf}
-use Rattle.verdict.specs.Demands.{Meets}
+use Rattle.verdict.specs.Demands.{stepsIn, Meets}
 use Rattle.verdict.specs.Inner.{Decided}
-use Rattle.verdict.proofs.Laws.Demands.{few-steps, meets}
+use Rattle.verdict.proofs.Laws.Demands.{few-steps, known-read, steps-read, run-ends, meets}
 
 module _ (s : List ℕ) (cut budget space : ℕ) where
   row8 : ℕ
@@ -122,38 +122,55 @@ refused-buffer s cut budget old n =
     old)
     (ne-eqb (refusalOf s cut budget (length old)) 0 n))
 
--- a call that isn't refused: at most 256 steps
-pub answered-few : (s : List ℕ) (cut budget : ℕ) (out out′ : List ℕ) (r : Ended) → Decided s cut budget out out′ r → refusalOf s cut budget (length out) ≡ 0 → r .made ≤ 256
-answered-few s cut budget out out′ r d ok =
-    le-trans (le-of-eq (d .count)) (few-steps s cut budget (ok-sheet s cut budget (length out) ok) (ok-cut s cut budget (length out) ok))
+-- a call that isn't refused, by the definitions: its answer, its buffer, and what is read back from that
+module _ (s : List ℕ) (cut budget : ℕ) (old : List ℕ) (ok : refusalOf s cut budget (length old) ≡ 0) where
+  abbrev o : Outcome
+  o = outcomeOf s cut budget
 
--- its answer and its buffer
+  abbrev gained : ℕ
+  gained = knowledge (entryAt s) (o .learnt) .known
+
+  pub accepted-answer : answerOf s cut budget (length old) ≡ verdictCode (o .verdict) + length (o .steps)
+  unfolding answerOf
+  accepted-answer =
+      ap (λ (b : Bool). cond b (verdictCode (o .verdict) + length (o .steps)) (refusalOf s cut budget (length old)))
+      (eq-eqb (refusalOf s cut budget (length old)) 0 ok)
+
+  pub accepted-buffer : bufferOf s cut budget old ≡ bytesOf 32 gained ++ (stepsBytes (o .steps) ++ drop (32 + 40 * length (o .steps)) old)
+  unfolding bufferOf
+  accepted-buffer =
+      ap (λ (b : Bool). cond b (bytesOf 32 gained ++ (stepsBytes (o .steps) ++ drop (32 + 40 * length (o .steps)) old)) old)
+      (eq-eqb (refusalOf s cut budget (length old)) 0 ok)
+
+  pub accepted-few : length (o .steps) ≤ 256
+  accepted-few = few-steps s cut budget (ok-sheet s cut budget (length old) ok) (ok-cut s cut budget (length old) ok)
+
+  pub accepted-known : setOf (take 32 (bufferOf s cut budget old)) ≡ gained
+  accepted-known =
+      ap (λ (b : List ℕ). setOf (take 32 b)) accepted-buffer
+      ∙ known-read s cut budget (ok-sheet s cut budget (length old) ok) (ok-cut s cut budget (length old) ok) (stepsBytes (o .steps) ++ drop (32 + 40 * length (o .steps)) old)
+
+  pub accepted-steps : stepsIn (bufferOf s cut budget old) (length (o .steps)) ≡ o .steps
+  accepted-steps =
+      ap (λ (b : List ℕ). stepsIn b (length (o .steps))) accepted-buffer
+      ∙ steps-read s cut budget (ok-sheet s cut budget (length old) ok) (ok-cut s cut budget (length old) ok) (drop (32 + 40 * length (o .steps)) old)
+
+  pub accepted-ends : countOf s ≤ budget → ¬ (o .verdict ≡ exhausted)
+  accepted-ends = run-ends s cut budget (ok-sheet s cut budget (length old) ok) (ok-cut s cut budget (length old) ok)
+
+-- a call that was decided: its answer and its buffer
+pub answered-few : (s : List ℕ) (cut budget : ℕ) (out out′ : List ℕ) (r : Ended) → Decided s cut budget out out′ r → refusalOf s cut budget (length out) ≡ 0 → r .made ≤ 256
+answered-few s cut budget out out′ r d ok = le-trans (le-of-eq (d .count)) (accepted-few s cut budget out ok)
+
 module _ (s : List ℕ) (cut budget : ℕ) (out out′ : List ℕ) (r : Ended) (d : Decided s cut budget out out′ r) (ok : refusalOf s cut budget (length out) ≡ 0) (v : program.Verdict) (is : r .verdict ≡ v) where
   number-is : verdictCode (verdictOf v) + r .made ≡ verdictCode (outcomeOf s cut budget .verdict) + length (outcomeOf s cut budget .steps)
   number-is = ap₂ (λ (w : Verdict) (k : ℕ). verdictCode w + k) (ap verdictOf (sym is) ∙ d .verdict) (d .count)
 
   pub answered : verdictCode (verdictOf v) + r .made ≡ answerOf s cut budget (length out)
-  unfolding answerOf
-  answered =
-      number-is
-      ∙ sym
-      (ap
-      (λ (b : Bool).
-      cond b (verdictCode (outcomeOf s cut budget .verdict) + length (outcomeOf s cut budget .steps)) (refusalOf s cut budget (length out)))
-      (eq-eqb (refusalOf s cut budget (length out)) 0 ok))
+  answered = number-is ∙ sym (accepted-answer s cut budget out ok)
 
   pub answered-buffer : out′ ≡ bufferOf s cut budget out
-  unfolding bufferOf
-  answered-buffer =
-      d .bytes
-      ∙ sym
-      (ap
-      (λ (b : Bool).
-      cond b
-      (bytesOf 32 (knowledge (entryAt s) (outcomeOf s cut budget .learnt) .known)
-      ++ (stepsBytes (outcomeOf s cut budget .steps) ++ drop (32 + 40 * length (outcomeOf s cut budget .steps)) out))
-      out)
-      (eq-eqb (refusalOf s cut budget (length out)) 0 ok))
+  answered-buffer = d .bytes ∙ sym (accepted-buffer s cut budget out ok)
 
   pub answered-meets : Meets s cut budget out′ (verdictCode (verdictOf v) + r .made)
   answered-meets =

@@ -1,7 +1,7 @@
 -- From the run over the tables to the verdict on a sheet. Assumes nothing.
-use mathlib.Core.Path.{_≡_, refl, sym, ap, ap₂, _∙_, subst}
+use mathlib.Core.Path.{_≡_, sym, ap, ap₂, _∙_}
 use mathlib.Core.Bool.{cond}
-use mathlib.Core.List.{List, [], _∷_, _++_}
+use mathlib.Core.List.{List, _++_}
 use Prim.Native.Nat.{ℕ, _+_, _*_, _≤_}
 use native.Mathlib.Nat.{le-trans, le-of-eq}
 use native.Mathlib.Omega.{arith}
@@ -12,7 +12,7 @@ use Rattle.bitset.specs.Words.{value, bytesOf}
 use Rattle.bitset.proofs.Laws.Choice.{when-le}
 use Rattle.deduction.specs.Elimination.{Knowledge}
 use Rattle.deduction.specs.Step.{Step}
-use Rattle.deduction.specs.Run.{Outcome, knowledge}
+use Rattle.deduction.specs.Run.{knowledge}
 use Rattle.dag.specs.Sheet.{countOf, goalOf}
 use Rattle.dag.specs.Record.{entryAt}
 use Rattle.knowledge.specs.State.{stateOf}
@@ -21,13 +21,14 @@ use Rattle.derive.specs.Machine.{Ended, machine}
 use Rattle.derive.specs.Ran.{endOf, Ran}
 use Rattle.derive.specs.declared.run.Ended as program
 use Rattle.derive.proofs.Laws.Machine.{asEnded, machine-run}
-use Rattle.verdict.specs.Answer.{startOf, outcomeOf}
+use Rattle.verdict.specs.Answer.{outcomeOf}
+use Rattle.verdict.specs.Start.{startHeads}
 use Rattle.verdict.specs.Inner.{Decided}
 
-module _ (s : List ℕ) (cut budget : ℕ) (known : List ℕ) (rows : List (List ℕ)) (len : ℕ) (state : stateOf known rows len ≡ knowledge (entryAt s) (startOf s cut)) where
+module _ (s : List ℕ) (cut budget : ℕ) (known : List ℕ) (rows : List (List ℕ)) (len : ℕ) (state : stateOf known rows len ≡ knowledge (entryAt s) (startHeads s cut)) where
   ends : endOf s budget known rows len ≡ asEnded (entryAt s) (outcomeOf s cut budget)
   unfolding outcomeOf
-  ends = ap (machine (entryAt s) (countOf s) (goalOf s) budget) state ∙ machine-run (entryAt s) (countOf s) (goalOf s) budget (startOf s cut)
+  ends = ap (machine (entryAt s) (countOf s) (goalOf s) budget) state ∙ machine-run (entryAt s) (countOf s) (goalOf s) budget (startHeads s cut)
 
   pub decided : (remainders : List (List ℕ)) (out : List ℕ) (r : program.Ended) (rows′ remainders′ : List (List ℕ)) (out′ out″ : List ℕ)
       → Ran s known rows len remainders budget out r rows′ remainders′ out′ → 32 ≤ length out

@@ -28,8 +28,9 @@ use Rattle.dag.specs.Record.{entryAt}
 use Rattle.dag.specs.Refusal.{refusal}
 use Rattle.dag.proofs.Laws.Good.{Good, good}
 use Rattle.derive.specs.Bytes.{stepsBytes}
-use Rattle.verdict.specs.Answer.{startOf, outcomeOf, verdictCode}
-use Rattle.verdict.specs.Demands.{startTerms, goalTerm, startHeads, stepsIn, Reached, OutOfReach, Stopped, Meets}
+use Rattle.verdict.specs.Answer.{outcomeOf, verdictCode}
+use Rattle.verdict.specs.Start.{startHeads, startTerms}
+use Rattle.verdict.specs.Demands.{goalTerm, stepsIn, Reached, OutOfReach, Stopped, Meets}
 use Rattle.verdict.proofs.Laws.Readback.{Narrow, read-back}
 
 -- the set of a step that follows has members below n only
@@ -100,7 +101,7 @@ module _ (s : List ℕ) (cut budget : ℕ) (ok : refusal s ≡ 0) (within : cut 
   heads = trace-heads (entryAt s) (countOf s) (g .downward) (traceOf s cut) below
 
   run-made : Made (termAt (entryAt s)) (countOf s) (startHeads s cut) (o .steps)
-  unfolding outcomeOf startOf
+  unfolding outcomeOf
   run-made = made (entryAt s) (countOf s) (g .downward) (g .few) (goalOf s) budget (startHeads s cut) heads
 
   run-narrow : (r : Step) → List·Memᴰ r (o .steps) → Narrow r
@@ -111,52 +112,56 @@ module _ (s : List ℕ) (cut budget : ℕ) (ok : refusal s ≡ 0) (within : cut 
   gained = knowledge (entryAt s) (o .learnt) .known
 
   run-learnt : o .learnt ≡ startHeads s cut ++ map (λ (r : Step). r .head) (o .steps)
-  unfolding outcomeOf startOf
+  unfolding outcomeOf
   run-learnt = learnt-steps (entryAt s) (countOf s) (g .downward) (g .few) (goalOf s) budget (startHeads s cut) heads
 
   run-known : (e : ℕ) → (member gained e ≡ true) ↔ List·Memᴰ e (o .learnt)
-  unfolding outcomeOf startOf
+  unfolding outcomeOf
   run-known = known-set (entryAt s) (countOf s) (g .downward) (g .few) (goalOf s) budget (startHeads s cut) heads
 
   run-below : gained < 2 ^ 256
-  unfolding outcomeOf startOf
+  unfolding outcomeOf
   run-below = lt-of-lt-of-le (below-members (countOf s) gained (λ e m. all-heads e (run-known e .0 m) .0)) (pow-mono (g .few))
     where
       all-heads : Heads (entryAt s) (countOf s) (o .learnt)
       all-heads = learnt-heads (entryAt s) (countOf s) (g .downward) (g .few) (goalOf s) budget (startHeads s cut) heads
 
-  known-read : (rest : List ℕ) → setOf (take 32 (bytesOf 32 gained ++ rest)) ≡ gained
+  pub known-read : (rest : List ℕ) → setOf (take 32 (bytesOf 32 gained ++ rest)) ≡ gained
   known-read rest = ap setOf (take-at (bytesOf 32 gained) rest 32 (length-bytesOf 32 gained)) ∙ setOf-bytesOf 32 gained ∙ mod-eq-of-lt run-below
 
+  -- and the steps, read back from a buffer
+  pub steps-read : (rest : List ℕ) → stepsIn (bytesOf 32 gained ++ (stepsBytes (o .steps) ++ rest)) (length (o .steps)) ≡ o .steps
+  steps-read rest = read-back (bytesOf 32 gained) (o .steps) rest (length-bytesOf 32 gained) run-narrow
+
   run-few : length (o .steps) ≤ countOf s
-  unfolding outcomeOf startOf
+  unfolding outcomeOf
   run-few = steps-le (entryAt s) (countOf s) (g .downward) (g .few) (goalOf s) budget (startHeads s cut) heads
 
   pub few-steps : length (o .steps) ≤ 256
   few-steps = le-trans run-few (g .few)
 
   run-passes : o .verdict ≡ derivable → (end : List Term) × Replays (termAt (entryAt s)) (countOf s) (startTerms s cut) (o .steps) end × Holds end (goalTerm s)
-  unfolding outcomeOf startOf
+  unfolding outcomeOf
   run-passes p =
       let (r, h) = trace-run-replays (entryAt s) (countOf s) (g .downward) (g .few) (goalOf s) budget (traceOf s cut) below (g .goal) p in
       (endState (termAt (entryAt s)) (startTerms s cut) (o .steps), r, h)
 
   run-out : o .verdict ≡ underivable → ¬ Derivable (startTerms s cut) (goalTerm s)
-  unfolding outcomeOf startOf
+  unfolding outcomeOf
   run-out = trace-underivable-exact (entryAt s) (countOf s) (g .downward) (g .few) (goalOf s) budget (traceOf s cut) below (g .goal)
 
   run-iff : countOf s ≤ budget → (o .verdict ≡ underivable) ↔ (¬ Derivable (startTerms s cut) (goalTerm s))
-  unfolding outcomeOf startOf
+  unfolding outcomeOf
   run-iff = trace-underivable-iff (entryAt s) (countOf s) (g .downward) (g .few) (goalOf s) budget (traceOf s cut) below (g .goal)
 
-  run-ends : countOf s ≤ budget → ¬ (o .verdict ≡ exhausted)
-  unfolding outcomeOf startOf
+  pub run-ends : countOf s ≤ budget → ¬ (o .verdict ≡ exhausted)
+  unfolding outcomeOf
   run-ends = run-enough (entryAt s) (countOf s) (g .downward) (g .few) (goalOf s) budget (startHeads s cut) heads
 
   run-stopped : o .verdict ≡ exhausted
       → (length (o .steps) ≡ budget) × (¬ Holds (map (termAt (entryAt s)) (startHeads s cut ++ map (λ (r : Step). r .head) (o .steps))) (goalTerm s))
       × ((r : Step) × Follows (termAt (entryAt s)) (countOf s) (startHeads s cut ++ map (λ (r : Step). r .head) (o .steps)) r)
-  unfolding outcomeOf startOf
+  unfolding outcomeOf
   run-stopped p =
       let (q, unknown, (r, f)) = exhausted-exact (entryAt s) (countOf s) (g .downward) (g .few) (goalOf s) budget (startHeads s cut) heads p in
       let l = run-learnt in (
@@ -209,7 +214,7 @@ module _ (s : List ℕ) (cut budget : ℕ) (ok : refusal s ≡ 0) (within : cut 
     pub meets : (rest : List ℕ) → Meets s cut budget (bytesOf 32 gained ++ (stepsBytes (o .steps) ++ rest)) answer
     meets rest =
         let out = bytesOf 32 gained ++ (stepsBytes (o .steps) ++ rest) in
-        let back : o .steps ≡ stepsIn out (length (o .steps)) = sym (read-back (bytesOf 32 gained) (o .steps) rest (length-bytesOf 32 gained) run-narrow) in
+        let back : o .steps ≡ stepsIn out (length (o .steps)) = sym (steps-read rest) in
         record {
           count = length (o .steps);
           kinds = kind (o .verdict) refl;

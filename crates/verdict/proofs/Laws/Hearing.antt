@@ -1,41 +1,41 @@
 -- The heard messages learnt one by one. Assumes nothing.
-use mathlib.Core.Path.{_≡_, refl, sym, ap, ap₂, _∙_, subst}
+use mathlib.Core.Path.{_≡_, sym, ap, ap₂, _∙_}
 use mathlib.Core.List.{List, [], _∷_, _++_, map, map-append}
-use Prim.Native.Nat.{ℕ, zero, suc, _+_, _≤_, _<_}
+use Prim.Native.Nat.{ℕ, _+_, _<_}
 use native.Mathlib.Nat.{le-trans, lt-of-lt-of-le, lt-of-le-of-lt, le-of-eq}
 use native.Mathlib.Numerals.{add-one}
 use lib.ListN.{getD}
 use Rattle.bitset.specs.Words.{value}
 use Rattle.deduction.specs.Standard.{setAt, repAt}
-use Rattle.deduction.specs.Elimination.{Knowledge, Row, learn, learnAs, learnAll, nothing}
+use Rattle.deduction.specs.Elimination.{Knowledge, learn, learnAs, learnAll, nothing}
 use Rattle.deduction.specs.Run.{knowledge}
 use Rattle.deduction.proofs.Elimination.{learnAll-more}
 use Rattle.deduction.proofs.Standard.{rep-le}
-use Rattle.dag.specs.Sheet.{countOf, traceLength, traceAt, traceOf, listed}
+use Rattle.dag.specs.Sheet.{countOf, traceAt, listed}
 use Rattle.dag.specs.Record.{entryAt}
-use Rattle.dag.proofs.Laws.Good.{Good, good}
+use Rattle.dag.proofs.Laws.Good.{good}
 use Rattle.knowledge.specs.Rows.{rowsOf}
 use Rattle.knowledge.specs.State.{stateOf}
-use Rattle.verdict.specs.Answer.{startOf}
+use Rattle.verdict.specs.Start.{startHeads}
 use Rattle.verdict.specs.Inner.{Heard}
 
-start-more : (s : List ℕ) (k : ℕ) → startOf s (k + 1) ≡ startOf s k ++ (repAt (entryAt s) (traceAt s k) ∷ [])
-unfolding startOf listed
+start-more : (s : List ℕ) (k : ℕ) → startHeads s (k + 1) ≡ startHeads s k ++ (repAt (entryAt s) (traceAt s k) ∷ [])
+unfolding listed
 start-more s k = ap (λ (n : ℕ). map (repAt (entryAt s)) (listed (traceAt s) n)) (add-one k) ∙ map-append (repAt (entryAt s)) (listed (traceAt s) k) (traceAt s k ∷ [])
 
 -- before the first message nothing is known
-pub hear-none : (s known : List ℕ) (rows : List (List ℕ)) → value known ≡ 0 → stateOf known rows 0 ≡ knowledge (entryAt s) (startOf s 0)
-unfolding knowledge learnAll nothing startOf listed rowsOf
+pub hear-none : (s known : List ℕ) (rows : List (List ℕ)) → value known ≡ 0 → stateOf known rows 0 ≡ knowledge (entryAt s) (startHeads s 0)
+unfolding knowledge learnAll nothing listed rowsOf
 hear-none s known rows p = λ i. record { known = p i; rows = [] }
 
 -- one message more
-pub hear-more : (s : List ℕ) (k : ℕ) (known : List ℕ) (rows : List (List ℕ)) (len h v : ℕ) (more : List ℕ) (rows′ : List (List ℕ)) (len′ : ℕ) → stateOf known rows len ≡ knowledge (entryAt s) (startOf s k)
+pub hear-more : (s : List ℕ) (k : ℕ) (known : List ℕ) (rows : List (List ℕ)) (len h v : ℕ) (more : List ℕ) (rows′ : List (List ℕ)) (len′ : ℕ) → stateOf known rows len ≡ knowledge (entryAt s) (startHeads s k)
     → h ≡ repAt (entryAt s) (traceAt s k) → v ≡ setAt (entryAt s) h → stateOf more rows′ len′ ≡ learnAs (stateOf known rows len) h v
-    → stateOf more rows′ len′ ≡ knowledge (entryAt s) (startOf s (k + 1))
+    → stateOf more rows′ len′ ≡ knowledge (entryAt s) (startHeads s (k + 1))
 unfolding knowledge
 hear-more s k known rows len h v more rows′ len′ before head set after =
-    after ∙ ap₂ (λ (j : Knowledge) (x : ℕ). learnAs j h x) before set ∙ ap (learn (setAt (entryAt s)) (knowledge (entryAt s) (startOf s k))) head
-    ∙ sym (learnAll-more (setAt (entryAt s)) nothing (startOf s k) (repAt (entryAt s) (traceAt s k))) ∙ ap (knowledge (entryAt s)) (sym (start-more s k))
+    after ∙ ap₂ (λ (j : Knowledge) (x : ℕ). learnAs j h x) before set ∙ ap (learn (setAt (entryAt s)) (knowledge (entryAt s) (startHeads s k))) head
+    ∙ sym (learnAll-more (setAt (entryAt s)) nothing (startHeads s k) (repAt (entryAt s) (traceAt s k))) ∙ ap (knowledge (entryAt s)) (sym (start-more s k))
 
 -- the head of message k, as the table has it
 module _ {s : List ℕ} {cut : ℕ} {sets : List (List ℕ)} {reps : List ℕ} {rows remainders : List (List ℕ)} (r : Heard s cut sets reps rows remainders) (k : ℕ) (h : k < cut) where

@@ -1,18 +1,17 @@
 -- Steps written to a buffer are read back as they were. Assumes nothing.
-use mathlib.Core.Path.{_≡_, refl, sym, ap, ap₂, _∙_, subst}
+use mathlib.Core.Path.{_≡_, refl, sym, ap, ap₂, _∙_}
 use mathlib.Core.List.{List, [], _∷_, _++_, append-assoc, List·Memᴰ, List·Memᴰ·head, List·Memᴰ·tail}
-use Prim.Native.Nat.{ℕ, zero, suc, _+_, _*_, _/_, _%_, _^_, _≤_, _<_}
-use native.Mathlib.Nat.{div-add-mod', mod-eq-of-lt, mul-suc, le-of-suc-le-suc, le-refl, le-of-lt, zero-lt-suc}
-use native.Mathlib.Numerals.{add-one}
+use Prim.Native.Nat.{ℕ, zero, suc, _+_, _*_, _^_, _≤_, _<_}
+use native.Mathlib.Nat.{div-add-mod', mod-eq-of-lt, mul-suc, le-of-suc-le-suc, le-refl, le-of-lt}
 use native.Mathlib.Omega.{arith}
 use lib.ListN.{length, getD, take, drop}
-use lib.Seq.{take-at, drop-at, drop-append-add, take-suc, take-length, drop-cons, drop-drop}
+use lib.Seq.{take-at, drop-append-add, take-suc, take-length, drop-cons}
 use Rattle.bitset.specs.Words.{setOf, bytesOf}
 use Rattle.bitset.proofs.Laws.Bytes.{length-bytesOf, setOf-bytesOf}
 use Rattle.deduction.specs.Step.{Step, step}
 use Rattle.dag.specs.Sheet.{numberAt}
-use Rattle.derive.specs.Bytes.{two, stepBytes, stepsBytes}
-use Rattle.derive.proofs.Laws.Buffer.{step-length, steps-length}
+use Rattle.derive.specs.Bytes.{stepBytes, stepsBytes}
+use Rattle.derive.proofs.Laws.Buffer.{step-length}
 use Rattle.verdict.specs.Demands.{readStep, stepsIn}
 
 -- a set that its 32 bytes hold

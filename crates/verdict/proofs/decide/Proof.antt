@@ -1,11 +1,9 @@
 -- `verdict::decide` meets its contract: the tables, the heard messages, the run, and the known set.
-use mathlib.Core.Path.{_≡_, refl, sym, ap, _∙_}
+use mathlib.Core.Path.{refl}
 use native.Mathlib.Omega.{arith}
 use borrow.Author.Needs.{needs}
 use denote.Ref.{now}
-use Rattle.verdict.specs.Inner.{Heard}
 use Rattle.verdict.proofs.Laws.Decide.{decided}
-use Rattle.derive.specs.Ran.{Ready}
 use Rattle.verdict.proofs.decide.Statement.{statement}
 use Rattle.verdict.proofs.decide.Tie as tie
 

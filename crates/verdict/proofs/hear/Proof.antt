@@ -1,15 +1,13 @@
 -- `verdict::hear` meets its contract. The loop's invariant: the state is the knowledge of the messages learnt so far.
 use mathlib.Core.Path.{_≡_, sym, ap, _∙_, subst}
-use mathlib.Core.List.{List, []}
-use Prim.Native.Nat.{ℕ, _+_, _-_, _*_, _≤_, _<_}
+use Prim.Native.Nat.{ℕ, _-_, _≤_, _<_}
 use native.Mathlib.Nat.{le-trans, le-of-eq}
 use native.Mathlib.Omega.{arith}
 use lib.ListN.{length, getD}
 use borrow.Author.Needs.{needs}
 use denote.Ref.{now}
-use Rattle.bitset.specs.Words.{value}
 use Rattle.verdict.specs.Inner.{Heard}
-use Rattle.verdict.specs.Answer.{startOf}
+use Rattle.verdict.specs.Start.{startHeads}
 use Rattle.dag.specs.Sheet.{countOf}
 use Rattle.dag.specs.Record.{entryAt}
 use Rattle.dag.proofs.Laws.Good.{good}
@@ -24,7 +22,7 @@ use Rattle.verdict.proofs.hear.Tie as tie
 
 abbrev Inv-loop : tie.InvT-loop
 Inv-loop s cut sets reps rows₀ remainders₀ n known₀ len₀ k₀ rows remainders known len k =
-    (n ≡ countOf s) × (k ≤ cut) × Heard s cut sets reps rows₀ remainders₀ × (stateOf known rows len ≡ knowledge (entryAt s) (startOf s k)) × Room known len
+    (n ≡ countOf s) × (k ≤ cut) × Heard s cut sets reps rows₀ remainders₀ × (stateOf known rows len ≡ knowledge (entryAt s) (startHeads s k)) × Room known len
     × (length rows ≡ 512) × (length remainders ≡ 256) × Remainders (setAt (entryAt s)) (countOf s) rows len remainders
 
 abbrev μ-loop : tie.MeasureT-loop
@@ -111,7 +109,7 @@ loop-again c = let a = c .before .before .before .before .before .before .before
 returns : tie.Need-returns Inv-loop μ-loop
 returns c = let a = c .before in
     let s = c .before .before .before .before .before in
-    (a .loop .inv .3 ∙ ap (λ (k : ℕ). knowledge (entryAt (now (s .args .s))) (startOf (now (s .args .s)) k)) (done c), (a .loop .inv .4, ((a .loop .inv .5, a .loop .inv .6), a .loop .inv .7)))
+    (a .loop .inv .3 ∙ ap (λ (k : ℕ). knowledge (entryAt (now (s .args .s))) (startHeads (now (s .args .s)) k)) (done c), (a .loop .inv .4, ((a .loop .inv .5, a .loop .inv .6), a .loop .inv .7)))
 
 pub hear-spec : {M : Type 1} → statement M
 hear-spec =

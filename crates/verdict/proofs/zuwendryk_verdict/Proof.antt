@@ -1,6 +1,5 @@
 -- `verdict::zuwendryk_verdict` meets its contract: the number of the verdict's answer.
-use mathlib.Core.Path.{_≡_, sym, _∙_, subst}
-use Prim.Native.Nat.{ℕ}
+use mathlib.Core.Path.{sym, _∙_, subst}
 use borrow.Author.Needs.{needs}
 use denote.Ref.{now}
 use Rattle.verdict.specs.Demands.{Meets}
