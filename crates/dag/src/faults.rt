@@ -1,7 +1,5 @@
 // The rows of document 01's grounding table, each as its number or 0. Each answers for any slice.
 ghost use mathlib.Core.Path.{_≡_};
-ghost use lib.ListN.{length};
-ghost use Rattle.dag.specs.Sheet.{countOf};
 ghost use Rattle.dag.specs.Refusal.{noSheet, badCount, shortList, badPairs, badRecord, badRecords, notListed, forwardItems, refusal};
 use crate::record;
 use crate::sheet;

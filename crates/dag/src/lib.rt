@@ -1,9 +1,6 @@
 // A sheet's bytes: the term DAG of document 01. Which byte slices are refused and why, and readers of a good one.
 ghost use mathlib.Core.Path.{_≡_};
-ghost use Prim.Native.Nat.{ℕ, _+_, _*_, _≤_, _<_};
-ghost use lib.ListN.{length, take, drop};
-ghost use Rattle.dag.specs.Sheet.{numberAt, countOf, traceLength, goalOf, offsetAt, lengthAt, traceAt, beginAt, recordAt};
-ghost use Rattle.dag.specs.Record.{kindOf, fits};
+ghost use Prim.Native.Nat.{_≤_};
 ghost use Rattle.dag.specs.Refusal.{refusal};
 ghost use Rattle.dag.specs.Code.{codeOf};
 

@@ -1,6 +1,5 @@
 // What a record's bytes say.
 ghost use mathlib.Core.Path.{_≡_};
-ghost use lib.ListN.{length};
 ghost use Rattle.dag.specs.Sheet.{numberAt};
 ghost use Rattle.dag.specs.Record.{kindOf, fits, itemCount, itemAt};
 use crate::sheet;

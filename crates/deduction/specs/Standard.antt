@@ -8,7 +8,7 @@ use lib.Dec.{eqb, ltb}
 use lib.ListN.{getD}
 use Rattle.bitset.specs.Set.{member}
 use Rattle.deduction.specs.Term.{Term, 𝟎, _⊕_}
-use Rattle.deduction.specs.Entry.{Entry, Zero, Atom, Pair, Enc, Sum, termAt}
+use Rattle.deduction.specs.Entry.{Entry, Zero, Atom, Pair, Enc, Sum}
 
 -- what tells two terms of kinds 1 to 3 apart: the kind, and the atom's number or the sets of the two parts. Kind 0 for zero and sums
 pub record Shape : Type 0 where

@@ -1,7 +1,7 @@
 -- The run from a state of knowledge, as the program makes it: the same as `run` from the list of heads learnt (proofs/Laws/Machine.antt).
 -- Defined: `Ended`, how a run ends; `machine`, the run.
 use Prim.Native.Nat.{ℕ, zero, suc}
-use mathlib.Core.Bool.{Bool, true, false, cond, not, _&&_}
+use mathlib.Core.Bool.{true, false, cond, not, _&&_}
 use mathlib.Core.List.{List, [], _∷_}
 use lib.Dec.{eqb}
 use Rattle.deduction.specs.Entry.{Entry}

@@ -1,9 +1,8 @@
 // The next step: the least number over all steps that follow. A step's number is head, then rule, then first source, so the least is
 // the one that document 01's order names.
 ghost use mathlib.Core.Path.{_≡_};
-ghost use mathlib.Core.List.{[]};
 ghost use Prim.Native.Nat.{_≤_, min};
-ghost use lib.ListN.{length, getD};
+ghost use lib.ListN.{length};
 ghost use Rattle.bitset.specs.Words.{value};
 ghost use Rattle.knowledge.specs.Rows.{rowsOf};
 ghost use Rattle.derive.specs.Bytes.{stepOf};

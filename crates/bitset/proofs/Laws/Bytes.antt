@@ -1,11 +1,11 @@
 -- Sets as bytes in the buffer's form.
 -- Shown: how many bytes; which byte and bit a member is; what is written is read back; one byte more written or read; words from bytes.
 -- Assumes nothing.
-use mathlib.Core.Path.{_≡_, refl, sym, ap, ap₂, _∙_, subst}
+use mathlib.Core.Path.{_≡_, refl, sym, ap, ap₂, _∙_}
 use mathlib.Core.Logic.{by-cases}
-use mathlib.Core.List.{List, [], _∷_, _++_, append-assoc}
+use mathlib.Core.List.{List, [], _∷_, _++_}
 use Prim.Native.Nat.{ℕ, zero, suc, _+_, _-_, _*_, _/_, _%_, _^_, _≤_, _<_}
-use native.Mathlib.Nat.{add-comm, add-assoc, add-mul, zero-add, add-zero, suc-mul, zero-mul, mul-assoc, mul-zero, div-add-mod', mod-lt, mod-one, mul-one, div-div-eq-div-mul, le-trans, le-of-eq, lt-of-lt-of-le, lt-of-le-of-lt}
+use native.Mathlib.Nat.{add-comm, add-assoc, add-mul, zero-add, add-zero, suc-mul, zero-mul, mul-assoc, div-add-mod', mod-lt, mod-one, mul-one, div-div-eq-div-mul, le-trans, le-of-eq, lt-of-lt-of-le, lt-of-le-of-lt}
 use native.Mathlib.Decide.{decLt}
 use native.Mathlib.Numerals.{add-one}
 use native.Mathlib.Omega.{arith}

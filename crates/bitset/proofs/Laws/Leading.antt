@@ -1,18 +1,18 @@
 -- The leading entry of a set: its highest-numbered member.
 -- Shown: where it stands between two powers; it is a member of a set that isn't empty, and no member is higher. Assumes nothing.
-use mathlib.Core.Path.{_≡_, refl, sym, ap, _∙_, subst}
+use mathlib.Core.Path.{_≡_, refl, sym, ap, _∙_}
 use mathlib.Core.Logic.{by-cases}
-use mathlib.Core.Bool.{Bool, true, false, true≢false, false≢true, cond}
-use Prim.Native.Nat.{ℕ, zero, suc, _+_, _*_, _/_, _%_, _^_, _≤_, _<_}
-use native.Mathlib.Nat.{lt-of-lt-of-le, le-trans, le-refl, le-of-lt, mod-lt, div-eq-of-lt-le, div-lt-iff-lt-mul, one-mul, le-of-eq, two-pow-succ, mul-comm, pow-suc, div-div-eq-div-mul}
+use mathlib.Core.Bool.{Bool, true, false, true≢false, cond}
+use Prim.Native.Nat.{ℕ, zero, suc, _+_, _/_, _%_, _^_, _≤_, _<_}
+use native.Mathlib.Nat.{lt-of-lt-of-le, le-trans, div-eq-of-lt-le, div-lt-iff-lt-mul, one-mul, le-of-eq, two-pow-succ, mul-comm, pow-suc, div-div-eq-div-mul}
 use native.Mathlib.Omega.{arith}
 use native.Mathlib.Decide.{decLt}
 use lib.Arith.{bin-ind}
 use lib.Pow.{pow-pos, pow-mono, pow-add}
 use lib.Dec.{eqb}
-use borrow.Author.Tests.{eq-eqb, eqb-true}
+use borrow.Author.Tests.{eq-eqb}
 use Rattle.bitset.specs.Set.{member, highest, leading}
-use Rattle.bitset.proofs.Laws.Member.{member-le, member-zero, member-suc, member-empty, no-members}
+use Rattle.bitset.proofs.Laws.Member.{member-le, member-zero, member-suc, no-members}
 
 -- a number is below its power of two
 pub below-pow : (n : ℕ) → n < 2 ^ n

@@ -1,17 +1,17 @@
 -- Membership in a set of entries, for any number of entries.
 -- Shown: members of the empty set, of a sum, of a single and of an insertion; sets with the same members are equal; a member's power
 -- is at most the set; sums are associative. Assumes nothing.
-use mathlib.Core.Path.{_≡_, refl, sym, ap, ap₂, _∙_, subst}
+use mathlib.Core.Path.{_≡_, refl, sym, ap, ap₂, _∙_}
 use mathlib.Core.Bool.{Bool, true, false, true≢false, false≢true, xor, _||_, or-true, or-false, cond}
 use mathlib.Core.Logic.{_⊎_, inl, inr}
-use Prim.Native.Nat.{ℕ, zero, suc, _+_, _-_, _*_, _/_, _%_, _^_, _≤_, _<_}
-use native.Mathlib.Nat.{div-div-eq-div-mul, pow-suc, pow-succ', mod-lt, zero-div, div-one, zero-mod, div-add-mod', div-eq-of-lt, div-le-self, le-of-lt, lt-of-lt-of-le, le-refl, mul-comm, div-self, mul-div-cancel, div-mul-le-self, le-trans, le-of-eq, mul-mod-left, one-mul, mul-le-mul-right}
+use Prim.Native.Nat.{ℕ, zero, suc, _+_, _*_, _/_, _%_, _^_, _≤_, _<_}
+use native.Mathlib.Nat.{div-div-eq-div-mul, pow-suc, pow-succ', mod-lt, zero-div, div-one, div-add-mod', div-eq-of-lt, lt-of-lt-of-le, mul-div-cancel, div-mul-le-self, le-trans, le-of-eq, mul-mod-left, one-mul, mul-le-mul-right}
 use native.Mathlib.Omega.{arith}
 use lib.Arith.{bin-ind}
-use lib.Bits.{bitXor, xor-shr, xor-mod, xor-zero-r, xor-zero-l, xor-self}
+use lib.Bits.{bitXor, xor-shr, xor-mod}
 use lib.Dec.{eqb, eqb·zero-suc, eqb·suc-zero, eqb·suc-suc}
-use lib.Pow.{pow-pos, pow-mono, pow-lt}
-use borrow.Author.Tests.{eq-eqb, ne-eqb, eqb-true}
+use lib.Pow.{pow-pos, pow-mono}
+use borrow.Author.Tests.{eqb-true}
 use Rattle.bitset.specs.Set.{member, insert}
 
 -- the lowest bit is 0 or 1

@@ -1,10 +1,10 @@
 -- The set that a list of words holds, for any number of words.
 -- Shown: a part of at most 64 bits that lies in one word is that word's; so are members and bytes; the sum is word by word; a list is
 -- known by its value; a word set among zeros; the leading entry and the count of members. Assumes nothing.
-use mathlib.Core.Path.{_≡_, refl, sym, ap, ap₂, _∙_, subst}
-use mathlib.Core.Bool.{Bool, true, false}
+use mathlib.Core.Path.{_≡_, refl, sym, ap, ap₂, _∙_}
+use mathlib.Core.Bool.{false}
 use mathlib.Core.Logic.{by-cases}
-use mathlib.Core.List.{List, [], _∷_, _++_}
+use mathlib.Core.List.{List, [], _∷_}
 use Prim.Native.Nat.{ℕ, zero, suc, _+_, _-_, _*_, _/_, _%_, _^_, _≤_, _<_}
 use native.Mathlib.Nat.{zero-div, suc-mul, zero-mul, zero-add, mul-assoc, div-div-eq-div-mul, mul-add-mod-self-right, add-comm, add-mul, one-mul, mod-eq-of-lt, mul-le-mul-right, le-of-suc-le-suc, le-trans, le-of-eq, le-add-right, lt-of-lt-of-le, suc-add, div-add-mod', mod-lt}
 use native.Mathlib.Decide.{ℕ-discrete}

@@ -1,5 +1,5 @@
 -- `bitset::equal` meets its contract: two lists of words hold one set exactly when the words are equal.
-use mathlib.Core.Path.{_≡_, sym, _∙_}
+use mathlib.Core.Path.{_≡_, sym}
 use mathlib.Core.Bool.{false}
 use Prim.Native.Nat.{ℕ}
 use mir.Syntax.{w64}

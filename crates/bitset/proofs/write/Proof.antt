@@ -1,7 +1,7 @@
 -- `bitset::write` meets its contract. The loop's invariant: the bytes written so far, then the old ones.
 use mathlib.Core.Path.{_≡_, refl, sym, ap, _∙_}
-use mathlib.Core.List.{List, _++_}
-use Prim.Native.Nat.{ℕ, _+_, _-_, _≤_, _<_}
+use mathlib.Core.List.{_++_}
+use Prim.Native.Nat.{ℕ, _-_, _≤_}
 use mir.Syntax.{w64}
 use mir.Val.{Fits}
 use native.Mathlib.Omega.{arith}
@@ -12,7 +12,7 @@ use denote.Ref.{now}
 use Rattle.bitset.proofs.Laws.Choice.{when-le, when-not-le}
 use Rattle.bitset.proofs.Laws.Words.{Below, value-byte}
 use Rattle.bitset.proofs.Laws.Bytes.{bytes-more, bytes-length}
-use Rattle.bitset.specs.Words.{value, byteOf, bytesOf}
+use Rattle.bitset.specs.Words.{value, bytesOf}
 use Rattle.bitset.proofs.write.Statement.{statement}
 use Rattle.bitset.proofs.write.Tie as tie
 

@@ -1,8 +1,8 @@
 -- What holds of a good sheet, one that is not refused.
 -- Shown: `good`, from `refusal s ≡ 0`: every count is in its range, every record lies in the sheet and has a length of its kind, every entry
 -- number in a record is below the record's own, and every heard number and the goal are entries. Assumes nothing.
-use mathlib.Core.Path.{_≡_, refl, sym, ap, _∙_}
-use mathlib.Core.Bool.{Bool, true, false, true≢false, not, _||_}
+use mathlib.Core.Path.{_≡_, sym}
+use mathlib.Core.Bool.{true, false, not, _||_}
 use mathlib.Core.List.{List}
 use Prim.Native.Nat.{ℕ, zero, suc, _+_, _-_, _≤_, _<_}
 use native.Mathlib.Nat.{le-trans, le-of-eq, le-refl, le-antisymm}
@@ -13,7 +13,7 @@ use lib.ListN.{length, take, drop, length-drop}
 use lib.Seq.{length-take-le}
 use Rattle.deduction.specs.Entry.{Downward, parts}
 use Rattle.dag.specs.Sheet.{letters, countOf, traceLength, goalOf, offsetAt, lengthAt, traceAt, recordsFrom, beginAt, recordAt}
-use Rattle.dag.specs.Record.{kindOf, fits, decode, entryAt}
+use Rattle.dag.specs.Record.{kindOf, fits, entryAt}
 use Rattle.dag.specs.Refusal.{when, orElse, first, equal, anyFrom, noSheet, badCount, shortList, badPair, badPairs, badRecord, badRecordAt, badRecords, notListed, notListedAt, refusal}
 use Rattle.dag.proofs.Laws.Refusal.{or-false-left, or-false-right, orElse-zero-left, orElse-zero-right, when-zero, first-none, anyFrom-none, equal-true}
 

@@ -5,13 +5,12 @@ use mathlib.Core.List.{List, [], _∷_}
 use Prim.Native.Nat.{ℕ, zero, suc, _≤_, _<_}
 use native.Mathlib.Omega.{arith}
 use borrow.Author.Tests.{le-leb, lt-leb}
-use lib.Dec.{leb}
 use lib.ListN.{length}
 use Rattle.deduction.specs.Entry.{parts}
 use Rattle.dag.specs.Sheet.{numberAt, listed}
 use Rattle.dag.specs.Record.{kindOf, fits, itemCount, itemAt, decodeAs, decode}
 use Rattle.dag.specs.Refusal.{when, orElse, anyFrom, badRecord, forwardItems}
-use Rattle.dag.proofs.Laws.Refusal.{or-yes, or-no, when-yes, when-no, orElse-none, orElse-some}
+use Rattle.dag.proofs.Laws.Refusal.{or-yes, or-no, when-yes, when-no}
 
 parts-none : (k : ℕ) (r : List ℕ) → k < 2 → parts (decodeAs k r) ≡ []
 unfolding parts decodeAs

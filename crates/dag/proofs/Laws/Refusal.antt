@@ -1,6 +1,6 @@
 -- Tests in a row, and the first fault of many. Assumes nothing.
 use mathlib.Core.Path.{_≡_, refl, sym, ap, ap₂, _∙_}
-use mathlib.Core.Bool.{Bool, true, false, true≢false, not, cond, _&&_, _||_, or-false, or-true, or-assoc, and-false}
+use mathlib.Core.Bool.{Bool, true, false, true≢false, _&&_, _||_, or-false, or-true, or-assoc, and-false}
 use mathlib.Core.Logic.{⊎-elim, by-cases}
 use mathlib.Core.List.{List, [], _∷_, _++_, List·Memᴰ, List·Memᴰ·not-nil, List·Memᴰ·cases-cons, List-discrete}
 use Prim.Native.Nat.{ℕ, zero, suc, _+_, _≤_, _<_}
@@ -8,8 +8,8 @@ use native.Mathlib.Nat.{le-trans, le-of-eq, lt-of-le-of-lt}
 use native.Mathlib.Decide.{le-ind, decLt, ℕ-discrete}
 use native.Mathlib.Numerals.{add-one}
 use native.Mathlib.Omega.{arith}
-use borrow.Author.Tests.{lt-ltb, le-ltb, le-leb, lt-leb, eq-eqb, ne-eqb, leb-false}
-use lib.Dec.{eqb, ltb, leb}
+use borrow.Author.Tests.{le-leb, lt-leb, eq-eqb, ne-eqb, leb-false}
+use lib.Dec.{eqb, leb}
 use Rattle.dag.specs.Refusal.{when, orElse, first, equal, anyFrom}
 use Rattle.dag.specs.Sheet.{listed}
 

@@ -1,5 +1,5 @@
 -- `dag::validate` meets its contract: a refusal is one of the table.
-use mathlib.Core.Path.{_≡_, sym, ap, _∙_}
+use mathlib.Core.Path.{_∙_}
 use native.Mathlib.Nat.{le-trans, le-of-eq}
 use lib.Dec.{lit≤}
 use borrow.Author.Needs.{needs}

@@ -1,27 +1,26 @@
 -- The invariant of the run's loop: what is done, and the run that remains.
 -- Defined: `Along`. Shown: it holds at the start (`along-start`), after a step (`along-step`), and gives `Ran` at the end (`along-end`).
 -- Assumes nothing.
-use Prim.Native.Nat.{ℕ, zero, suc, _+_, _-_, _*_, _/_, _%_, _≤_, _<_, zero-le}
-use mathlib.Core.Path.{_≡_, refl, sym, ap, ap₂, _∙_, subst}
-use mathlib.Core.Bool.{Bool, true, false}
+use Prim.Native.Nat.{ℕ, suc, _+_, _-_, _*_, _≤_, _<_, zero-le}
+use mathlib.Core.Path.{_≡_, refl, sym, ap, _∙_, subst}
+use mathlib.Core.Bool.{false}
 use mathlib.Core.Logic.{⊎-elim}
 use mathlib.Core.List.{List, [], _∷_, _++_, append-nil}
 use native.Mathlib.Nat.{le-trans, le-of-eq, le-refl, sub-zero}
 use native.Mathlib.Omega.{arith}
-use lib.ListN.{length, getD, take, drop, length-append, take-append-drop}
-use Rattle.bitset.specs.Words.{value}
+use lib.ListN.{length, take, drop, length-append, take-append-drop}
 use Rattle.deduction.specs.Standard.{setAt}
 use Rattle.deduction.specs.Elimination.{Knowledge, learn, learnAs}
 use Rattle.deduction.specs.Step.{Step}
 use Rattle.deduction.specs.Run as theory
 use Rattle.dag.specs.Sheet.{countOf, goalOf}
 use Rattle.dag.specs.Record.{entryAt}
-use Rattle.knowledge.specs.Rows.{rowsOf, SameOutside, Remainders}
+use Rattle.knowledge.specs.Rows.{SameOutside, Remainders}
 use Rattle.knowledge.specs.State.{stateOf, Room}
 use Rattle.knowledge.proofs.Laws.Store.{same-refl, same-trans, same-wider}
 use Rattle.knowledge.proofs.Laws.Learn.{learn-len}
 use Rattle.derive.specs.Bytes.{stepBytes, stepsBytes}
-use Rattle.derive.specs.Machine.{Ended, stepNext, follow, machine}
+use Rattle.derive.specs.Machine.{Ended, stepNext, machine}
 use Rattle.derive.specs.Ran.{verdictOf, endAs, Ready, endOf, Ran}
 use Rattle.derive.specs.declared.run.Verdict.{Verdict}
 use Rattle.derive.specs.declared.run.Ended as program

@@ -1,15 +1,14 @@
 -- Steps in the output buffer, one after the other. Assumes nothing.
 use mathlib.Core.Path.{_≡_, refl, sym, ap, ap₂, _∙_}
 use mathlib.Core.List.{List, [], _∷_, _++_, append-assoc, append-nil}
-use Prim.Native.Nat.{ℕ, zero, suc, _+_, _-_, _*_, _≤_}
+use Prim.Native.Nat.{ℕ, suc, _+_, _-_, _*_, _≤_}
 use native.Mathlib.Nat.{le-trans, le-of-eq, mul-suc}
 use native.Mathlib.Omega.{arith}
 use lib.ListN.{length, take, drop, length-append, length-drop, drop-of-length-le}
 use lib.Seq.{take-at, drop-at, length-take-le, take-all, drop-drop}
-use Rattle.bitset.specs.Words.{bytesOf}
 use Rattle.bitset.proofs.Laws.Bytes.{length-bytesOf}
 use Rattle.deduction.specs.Step.{Step}
-use Rattle.derive.specs.Bytes.{two, stepBytes, stepsBytes}
+use Rattle.derive.specs.Bytes.{stepBytes, stepsBytes}
 
 pub step-length : (s : Step) → length (stepBytes s) ≡ 40
 unfolding stepBytes

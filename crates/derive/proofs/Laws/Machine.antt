@@ -1,18 +1,17 @@
 -- The run from a state, turn by turn, and that it is the run from the heads learnt.
 -- Shown: what the machine does where the goal is known, where nothing follows, where the budget is used up, and where a step is made;
 -- `machine-run`: from the knowledge of some heads it makes the steps of `run`. Assumes nothing.
-use mathlib.Core.Path.{_≡_, refl, sym, ap, ap₂, _∙_, subst}
+use mathlib.Core.Path.{_≡_, refl, sym, ap, ap₂, _∙_}
 use mathlib.Core.Bool.{Bool, true, false, cond, not, _&&_, and-false}
 use mathlib.Core.List.{List, [], _∷_, _++_}
-use Prim.Native.Nat.{ℕ, zero, suc, _+_, _-_, _<_}
-use native.Mathlib.Omega.{arith}
+use Prim.Native.Nat.{ℕ, zero, suc}
 use borrow.Author.Tests.{eq-eqb, ne-eqb}
 use lib.Dec.{eqb}
 use Rattle.deduction.specs.Entry.{Entry}
 use Rattle.deduction.specs.Standard.{setAt}
-use Rattle.deduction.specs.Elimination.{Knowledge, learn, learnAll, nothing}
+use Rattle.deduction.specs.Elimination.{Knowledge, learn, nothing}
 use Rattle.deduction.specs.Step.{Step}
-use Rattle.deduction.specs.Run.{Verdict, derivable, underivable, exhausted, Outcome, noStep, knowledge, nextNumber, stepAt, nextStep, reached, goesOn, ended, after, run}
+use Rattle.deduction.specs.Run.{Verdict, derivable, underivable, exhausted, Outcome, noStep, knowledge, nextNumber, nextStep, reached, goesOn, ended, after, run}
 use Rattle.deduction.proofs.Elimination.{learnAll-more}
 use Rattle.derive.specs.Machine.{Ended, stepNext, stopped, follow, machine}
 

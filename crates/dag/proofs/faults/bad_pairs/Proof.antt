@@ -1,15 +1,14 @@
 -- `dag::faults::bad_pairs` meets its contract. The loop's invariant: no pair so far is bad, and `at` is where the last record ended.
-use Prim.Native.Nat.{ℕ, _+_, _-_, _*_, _≤_, _<_}
-use mathlib.Core.Path.{_≡_, refl, sym, ap, _∙_}
+use Prim.Native.Nat.{_-_, _≤_}
+use mathlib.Core.Path.{_≡_, refl, ap}
 use native.Mathlib.Omega.{arith}
 use native.Mathlib.Numerals.{add-one}
-use lib.ListN.{length}
 use borrow.Author.Needs.{needs}
 use Rattle.dag.proofs.Laws.Refusal.{first-more}
 use Rattle.dag.proofs.Laws.Pairs.{pair-empty, pair-apart, pair-long, pair-good, pairs-found, pairs-short, pairs-good}
 use denote.Ref.{now}
-use Rattle.dag.specs.Sheet.{countOf, traceLength, offsetAt, lengthAt, beginAt}
-use Rattle.dag.specs.Refusal.{first, badPair, badPairs}
+use Rattle.dag.specs.Sheet.{countOf, beginAt}
+use Rattle.dag.specs.Refusal.{first, badPair}
 use Rattle.dag.proofs.faults.bad_pairs.Statement.{statement}
 use Rattle.dag.proofs.faults.bad_pairs.Tie as tie
 

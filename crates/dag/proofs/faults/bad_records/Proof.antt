@@ -1,12 +1,11 @@
 -- `dag::faults::bad_records` meets its contract. The loop's invariant: no record so far is bad.
-use Prim.Native.Nat.{ℕ, _+_, _-_, _*_, _≤_, _<_}
+use Prim.Native.Nat.{_-_, _≤_}
 use mathlib.Core.Path.{_≡_, refl, sym, ap, _∙_}
-use mathlib.Core.List.{List}
 use native.Mathlib.Omega.{arith}
 use borrow.Author.Needs.{needs}
 use Rattle.dag.proofs.Laws.Refusal.{first-more, first-found}
 use denote.Ref.{now}
-use Rattle.dag.specs.Sheet.{countOf, recordAt}
+use Rattle.dag.specs.Sheet.{countOf}
 use Rattle.dag.specs.Refusal.{first, badRecord, badRecordAt, badRecords}
 use Rattle.dag.proofs.faults.bad_records.Statement.{statement}
 use Rattle.dag.proofs.faults.bad_records.Tie as tie

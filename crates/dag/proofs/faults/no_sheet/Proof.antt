@@ -1,14 +1,14 @@
 -- `dag::faults::no_sheet` meets its contract: the length, then the four letters.
-use mathlib.Core.Path.{_≡_, sym, ap, _∙_}
+use mathlib.Core.Path.{sym, ap, _∙_}
 use mathlib.Core.Bool.{not, false≢true}
-use borrow.Author.Tests.{lt-ltb, le-ltb, le-leb, lt-leb}
+use borrow.Author.Tests.{lt-ltb, le-ltb}
 use native.Mathlib.Omega.{arith}
 use lib.ListN.{length, take}
 use borrow.Author.Needs.{needs}
 use Rattle.dag.proofs.Laws.Refusal.{or-yes, or-no, when-yes, when-no, equal-same, equal-differs}
 use denote.Ref.{now}
 use Rattle.dag.specs.Sheet.{letters}
-use Rattle.dag.specs.Refusal.{noSheet, equal}
+use Rattle.dag.specs.Refusal.{noSheet}
 use Rattle.dag.proofs.faults.no_sheet.Statement.{statement}
 use Rattle.dag.proofs.faults.no_sheet.Tie as tie
 

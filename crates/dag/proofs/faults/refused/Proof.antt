@@ -1,5 +1,5 @@
 -- `dag::faults::refused` meets its contract: the first row that holds.
-use mathlib.Core.Path.{_≡_, sym, ap, _∙_}
+use mathlib.Core.Path.{_≡_, sym, _∙_}
 use Prim.Native.Nat.{ℕ}
 use borrow.Author.Needs.{needs}
 use Rattle.dag.specs.Refusal.{orElse, refusal}

@@ -1,9 +1,9 @@
 -- `dag::faults::short_list` meets its contract.
-use borrow.Author.Tests.{lt-ltb, le-ltb, le-leb, lt-leb}
+use borrow.Author.Tests.{lt-ltb, le-ltb}
 use native.Mathlib.Omega.{arith}
 use lib.ListN.{length}
 use borrow.Author.Needs.{needs}
-use Rattle.dag.proofs.Laws.Refusal.{or-yes, or-no, when-yes, when-no}
+use Rattle.dag.proofs.Laws.Refusal.{when-yes, when-no}
 use denote.Ref.{now}
 use Rattle.dag.specs.Sheet.{recordsFrom}
 use Rattle.dag.specs.Refusal.{shortList}

@@ -1,5 +1,5 @@
 -- `derive::run::make` meets its contract: the step of the tables, written, and its head learnt.
-use mathlib.Core.Path.{_≡_, ap, _∙_}
+use mathlib.Core.Path.{ap, _∙_}
 use mathlib.Core.List.{_++_}
 use lib.ListN.{drop}
 use borrow.Author.Needs.{needs}
