@@ -117,14 +117,16 @@ impl Knowledge {
     }
 }
 
-// A remainder without a row, if it has the row's pivot.
-pub fn take_off(v: [u64; 4], row: [u64; 4], pivot: u8) -> [u64; 4]
-    ensures { λ r. ⌜ value r ≡ cond (member (value v) pivot) (bitXor (value v) (value row)) (value v) ⌝ }
+// Takes a row off remainder k, if it has the row's pivot.
+fn take_off(remainders: &mut [[u64; 4]; 256], k: usize, row: [u64; 4], pivot: u8)
+    requires { ⌜ (length (now remainders) ≡ 256) × (k < 256) ⌝ }
+    ensures line { λ _. ⌜ value (getD (now (remainders .exit)) k []) ≡ cond (member (value (getD (now (remainders .entry)) k [])) pivot) (bitXor (value (getD (now (remainders .entry)) k [])) (value row)) (value (getD (now (remainders .entry)) k [])) ⌝ }
+    ensures kept { λ _. ⌜ SameOutside k (k + 1) (now (remainders .entry)) (now (remainders .exit)) ⌝ }
 {
+    let v = remainders[k];
     if bitset::member(v, pivot) {
-        return bitset::sum(v, row);
+        remainders[k] = bitset::sum(v, row);
     }
-    v
 }
 
 // Takes row i off the first n remainders. What is left by the rows before row i becomes what is left with row i too.
@@ -137,9 +139,7 @@ pub fn sweep(remainders: &mut [[u64; 4]; 256], n: usize, rows: &[[u64; 4]; 512],
     let pivot = bitset::leading(row);
     let mut k: usize = 0;
     while k < n {
-        let v = remainders[k];
-        let left = take_off(v, row, pivot);
-        remainders[k] = left;
+        take_off(remainders, k, row, pivot);
         k += 1;
     }
 }
