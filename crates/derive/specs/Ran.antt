@@ -31,7 +31,7 @@ pub record Ready (s keys : List ℕ) (sets : List (List ℕ)) (reps known : List
   pub good : refusal s ≡ 0
   pub right : Right (entryAt s) (countOf s) keys sets reps
   pub sized : Sized keys sets reps
-  pub words : length rows ≡ 512
+  pub places : length rows ≡ 512
   pub lines : length remainders ≡ 256
   pub room : Room known len
   pub cache : Remainders (setAt (entryAt s)) (countOf s) rows len remainders

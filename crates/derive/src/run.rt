@@ -84,12 +84,13 @@ pub fn run(
     ensures { λ r. ⌜ Ran (now (s .entry)) known (now (rows .entry)) len (now (remainders .entry)) budget (now (out .entry)) r (now (rows .exit)) (now (remainders .exit)) (now (out .exit)) ⌝ }
 {
     let n = sheet::count(s) as usize;
-    let goal = reps[sheet::goal(s) as usize];
+    let goal = sheet::goal(s) as u8;
+    let head = reps[goal as usize];
     let mut have = known;
     let mut used = len;
     let mut made: u16 = 0;
     loop {
-        if bitset::member(have, goal) {
+        if bitset::member(have, head) {
             return end_as(Verdict::Derivable, made, have, used);
         }
         let x = next::next(keys, reps, n, have, remainders);

@@ -21,7 +21,7 @@ pub record Heard (s : List ℕ) (cut : ℕ) (sets : List (List ℕ)) (reps : Lis
   pub within : cut ≤ traceLength s
   pub set : (i : ℕ) → i < countOf s → value (getD sets i []) ≡ setAt (entryAt s) i
   pub rep : (i : ℕ) → i < countOf s → getD reps i 0 ≡ repAt (entryAt s) i
-  pub words : length rows ≡ 512
+  pub places : length rows ≡ 512
   pub lines : length remainders ≡ 256
   pub fresh : (i : ℕ) → i < countOf s → value (getD remainders i []) ≡ setAt (entryAt s) i
 

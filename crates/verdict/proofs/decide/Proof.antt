@@ -18,7 +18,7 @@ hear-requires c κs = let s = c .before .before .before .before .before .before 
       within = s .pre .1;
       set = t .right .set;
       rep = t .right .rep;
-      words = refl;
+      places = refl;
       lines = t .sized .set;
       fresh = t .right .set;
     }
@@ -31,7 +31,7 @@ run-requires c κs = let s = c .before .before .before .before .before .before .
       good = s .pre .0;
       right = t .right;
       sized = t .sized;
-      words = h .1 .1 .0 .0;
+      places = h .1 .1 .0 .0;
       lines = h .1 .1 .0 .1;
       room = h .1 .0;
       cache = h .1 .1 .1;

@@ -56,7 +56,7 @@ loop-holds c = let s = c .before .before .before in
       r,
       hear-none (now (s .args .s)) (c .empty .result) (now (s .args .rows)) (c .empty .ensures),
       search needs,
-      r .words,
+      r .places,
       r .lines,
       remainders-first (setAt (entryAt (now (s .args .s)))) (countOf (now (s .args .s))) (now (s .args .rows)) (now (s .args .remainders)) (r .fresh),
     )

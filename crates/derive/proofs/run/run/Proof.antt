@@ -32,12 +32,12 @@ use Rattle.derive.proofs.run.run.Statement.{statement}
 use Rattle.derive.proofs.run.run.Tie as tie
 
 abbrev Inv-loop : tie.InvT-loop
-Inv-loop s keys sets reps rows₀ len remainders₀ budget out₀ n goal have₀ used₀ made₀ rows remainders out have used made =
-    (n ≡ countOf s) × (goal ≡ repAt (entryAt s) (goalOf s)) × Ready s keys sets reps have₀ rows₀ used₀ remainders₀ budget out₀
+Inv-loop s keys sets reps rows₀ len remainders₀ budget out₀ n goal head have₀ used₀ made₀ rows remainders out have used made =
+    (n ≡ countOf s) × (head ≡ repAt (entryAt s) (goalOf s)) × Ready s keys sets reps have₀ rows₀ used₀ remainders₀ budget out₀
     × Along s have₀ rows₀ used₀ remainders₀ budget out₀ have rows used remainders made out × (used ≤ 256)
 
 abbrev μ-loop : tie.MeasureT-loop
-μ-loop s keys sets reps rows₀ len remainders₀ budget out₀ n goal have₀ used₀ made₀ rows remainders out have used made =
+μ-loop s keys sets reps rows₀ len remainders₀ budget out₀ n goal head have₀ used₀ made₀ rows remainders out have used made =
     budget - made
 
 -- the buffer keeps its length, and has the place of the next step
@@ -92,6 +92,10 @@ few c =
     let s = c .before .before .before .before .before .before in
     le-trans (le-of-eq (c .loop .inv .0)) (good (now (s .args .s)) (c .loop .inv .2 .good) .few)
 
+-- the goal is an entry's number
+goal-low : (c : tie.After-goal Inv-loop μ-loop) → c .goal .result < 256
+goal-low c = let s = c .before .before .before .before in lt-of-lt-of-le (lt-of-le-of-lt (le-of-eq (c .goal .ensures)) (good (now (s .args .s)) (s .pre .good) .goal)) (good (now (s .args .s)) (s .pre .good) .few)
+
 count-requires : tie.Need-count-requires Inv-loop μ-loop
 count-requires c κs = search needs
 
@@ -102,10 +106,13 @@ goal-requires : tie.Need-goal-requires Inv-loop μ-loop
 goal-requires c κs = search needs
 
 cast-goal : tie.Need-cast-goal Inv-loop μ-loop
-cast-goal c = search needs
+cast-goal c = record { fits = goal-low c }
 
-element-copy-out-goal : tie.Need-element-copy-out-goal Inv-loop μ-loop
-element-copy-out-goal c = let s = c .before .before .before .before in lt-of-lt-of-le (lt-of-le-of-lt (le-of-eq (c .goal .ensures)) (good (now (s .args .s)) (s .pre .good) .goal)) (good (now (s .args .s)) (s .pre .good) .few)
+cast-head : tie.Need-cast-head Inv-loop μ-loop
+cast-head c = search needs
+
+element-copy-out-head : tie.Need-element-copy-out-head Inv-loop μ-loop
+element-copy-out-head c = goal-low c
 
 loop-holds : tie.Need-loop-holds Inv-loop μ-loop
 loop-holds c = let s = c .before .before .before .before .before in (
@@ -170,7 +177,7 @@ part-make-end c = search needs
 make-requires : tie.Need-make-requires Inv-loop μ-loop
 make-requires c κs = let a = c .before .before .before .before .before .before .before .before .before in
     let s = c .before .before .before .before .before .before .before .before .before .before .before .before .before .before .before in
-    (a .loop .inv .3 .kept .size ∙ s .pre .words, a .loop .inv .3 .others .size ∙ s .pre .lines, few a, a .loop .inv .4, a .loop .inv .3 .room, part-room (a .loop .out) (32 + 40 * a .loop .made) 40 (next-place (c .before .before .before)))
+    (a .loop .inv .3 .kept .size ∙ s .pre .places, a .loop .inv .3 .others .size ∙ s .pre .lines, few a, a .loop .inv .4, a .loop .inv .3 .room, part-room (a .loop .out) (32 + 40 * a .loop .made) 40 (next-place (c .before .before .before)))
 
 add-made : tie.Need-add-made Inv-loop μ-loop
 add-made c = omega (arith, c .before .before .before .before .before .before .before .before .before .before .before .before .before .loop .inv .3 .within, c .before .before .before .before .before .before .before .before .before .before .before .before .before .loop .inv .2 .limit)
@@ -212,7 +219,8 @@ run-spec =
     cast-n
     goal-requires
     cast-goal
-    element-copy-out-goal
+    cast-head
+    element-copy-out-head
     loop-holds
     member-requires
     end-as-requires
