@@ -150,7 +150,7 @@ module _ (s : List ℕ) (cut budget : ℕ) (ok : refusal s ≡ 0) (within : cut 
   unfolding outcomeOf
   run-out = trace-underivable-exact (entryAt s) (countOf s) (g .downward) (g .few) (goalOf s) budget (traceOf s cut) below (g .goal)
 
-  run-iff : countOf s ≤ budget → (o .verdict ≡ underivable) ↔ (¬ Derivable (startTerms s cut) (goalTerm s))
+  pub run-iff : countOf s ≤ budget → (o .verdict ≡ underivable) ↔ (¬ Derivable (startTerms s cut) (goalTerm s))
   unfolding outcomeOf
   run-iff = trace-underivable-iff (entryAt s) (countOf s) (g .downward) (g .few) (goalOf s) budget (traceOf s cut) below (g .goal)
 
