@@ -101,7 +101,8 @@ impl Knowledge {
         if bitset::member(known, e) {
             return self;
         }
-        let more = bitset::insert(known, e);
+        let own = bitset::singleton(e);
+        let more = bitset::sum(known, own);
         self.known = more;
         let x = reduce(rows, len, set);
         let remainder = x.remainder;
@@ -109,7 +110,6 @@ impl Knowledge {
             return self;
         }
         let used = x.used;
-        let own = bitset::singleton(e);
         let uses = bitset::sum(used, own);
         self.len = len + 1;
         push(rows, len, remainder, uses);

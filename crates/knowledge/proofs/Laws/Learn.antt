@@ -19,6 +19,11 @@ use Rattle.knowledge.specs.Rows.{rowAt, rowsOf, SameOutside}
 use Rattle.knowledge.specs.State.{stateOf, Room}
 use Rattle.knowledge.proofs.Laws.Rows.{length-rowsOf, rowsOf-more, rowsOf-kept}
 
+-- an entry that isn't a member is inserted by a sum
+pub insert-new : (s e : ℕ) → member s e ≡ false → bitXor s (single e) ≡ insert s e
+unfolding insert
+insert-new s e h = sym (ap (λ (b : Bool). cond b s (bitXor s (single e))) h)
+
 -- a known entry changes nothing
 pub learn-again : (k : Knowledge) (e v : ℕ) → member (k .known) e ≡ true → k ≡ learnAs k e v
 unfolding learnAs
