@@ -5,6 +5,7 @@ ghost use Prim.Native.Nat.{ℕ, _+_, _*_, _≤_, _<_};
 ghost use mathlib.Core.Bool.{cond};
 ghost use mathlib.Core.List.{[]};
 ghost use lib.Bits.{bitXor};
+ghost use lib.Dec.{eqb};
 ghost use lib.ListN.{length, getD};
 ghost use Rattle.bitset.specs.Set.{member};
 ghost use Rattle.bitset.specs.Words.{value};
@@ -160,6 +161,7 @@ pub fn gain(
     ensures kept { λ r. ⌜ SameOutside (2 * len) (2 * r .len) (now (rows .entry)) (now (rows .exit)) ⌝ }
     ensures cache { λ r. ⌜ ((s : ℕ → ℕ) → Remainders s n (now (rows .entry)) len (now (remainders .entry)) → Remainders s n (now (rows .exit)) (r .len) (now (remainders .exit))) ⌝ }
     ensures others { λ _. ⌜ SameOutside 0 n (now (remainders .entry)) (now (remainders .exit)) ⌝ }
+    ensures lines { λ r. ⌜ ((k : ℕ) → k < n → value (getD (now (remainders .exit)) k []) ≡ cond (eqb (r .len) len) (value (getD (now (remainders .entry)) k [])) (withoutRow (value (getD (now (remainders .entry)) k [])) (rowAt (now (rows .exit)) len))) ⌝ }
 {
     let before = Knowledge { known, len };
     let learnt = before.hear(rows, e, set);

@@ -5,14 +5,12 @@ use mathlib.Core.Path.{_≡_, refl, sym, ap, ap₂, _∙_}
 use mathlib.Core.Bool.{Bool, true, false, cond}
 use mathlib.Core.List.{List, [], _∷_, _++_, append-assoc, append-nil}
 use Prim.Native.Nat.{ℕ, suc, _+_, _-_, _*_, _≤_, _<_}
-use native.Mathlib.Nat.{le-of-eq}
 use native.Mathlib.Numerals.{add-one}
 use native.Mathlib.Omega.{arith}
 use borrow.Author.Tests.{eq-eqb, ne-eqb}
 use lib.Count.{ones}
 use lib.Dec.{leb}
 use lib.ListN.{length, take, drop, length-drop}
-use lib.Seq.{take-all}
 use Rattle.bitset.specs.Words.{setOf}
 use Rattle.bitset.proofs.Laws.Choice.{when-le}
 use Rattle.deduction.specs.Step.{Step}
@@ -21,6 +19,7 @@ use Rattle.dag.specs.Sheet.{numberAt, goalOf, traceLength}
 use Rattle.dag.specs.Record.{entryAt}
 use Rattle.dag.specs.Refusal.{refusal}
 use Rattle.dag.proofs.Laws.Good.{good}
+use Rattle.derive.proofs.Laws.Buffer.{part-whole}
 use Rattle.verdict.specs.Answer.{refusalOf, outcomeOf, verdictCode, answerOf, bufferOf}
 use Rattle.verdict.specs.Demands.{readStep, stepsIn}
 use Rattle.verdict.proofs.Laws.Answered.{accepted, accepted-answer, accepted-few, accepted-known, accepted-steps, accepted-ends}
@@ -28,10 +27,6 @@ use Rattle.line.specs.Line.{goalLine, outLine, reachedLine, stepLine, refusedLi
 use Rattle.card.specs.Card.{stepText, stepsText, verdictText, cutText, isReached, cutsFrom, cardOf}
 use Rattle.line.specs.Buffer.{Appended}
 use Rattle.line.proofs.Laws.Buffer.{append-as, append-next, append-none}
-
--- the part of a list from k on
-part-all : (l : List ℕ) (k : ℕ) → take (length l - k) (drop k l) ≡ drop k l
-part-all l k = take-all (length l - k) (drop k l) (le-of-eq (length-drop k l))
 
 -- a rung's line, from the fields of its 40 bytes
 module _ (r : List ℕ) (long : 40 ≤ length r) where
@@ -42,7 +37,7 @@ module _ (r : List ℕ) (long : 40 ≤ length r) where
       → set ≡ setOf (take 32 (drop 8 r))
   step-set p =
       p
-      ∙ ap (λ (l : List ℕ). cond (leb 32 (length l)) (setOf (take 32 l)) 0) (part-all r 8)
+      ∙ ap (λ (l : List ℕ). cond (leb 32 (length l)) (setOf (take 32 l)) 0) (part-whole r 8)
       ∙ when-le 32 (length (drop 8 r)) (setOf (take 32 (drop 8 r))) 0 long-enough
 
 pub step-text : (r : List ℕ) {head rule first second set : ℕ} → head ≡ numberAt r 0 → rule ≡ numberAt r 2 → first ≡ numberAt r 4 → second ≡ numberAt r 6
@@ -68,7 +63,7 @@ pub steps-more : (b : List ℕ) (i : ℕ) {d d₁ d₂ : List ℕ} {at r₁ r₂
     → Appended d₁ r₁ (stepText (readStep (take (length b - (32 + 40 * i)) (drop (32 + 40 * i) b)))) d₂ r₂ → Appended d at (stepsText (stepsIn b (i + 1))) d₂ r₂
 steps-more b i h k =
     append-as (sym (stepsText-more (stepsIn b i) (readStep (drop (32 + 40 * i) b))) ∙ ap stepsText (sym (stepsIn-more b i)))
-    (append-next h (append-as (ap (λ (l : List ℕ). stepText (readStep l)) (part-all b (32 + 40 * i))) k))
+    (append-next h (append-as (ap (λ (l : List ℕ). stepText (readStep l)) (part-whole b (32 + 40 * i))) k))
 
 -- what is printed of a cut
 module _ (s : List ℕ) (cut : ℕ) (old : List ℕ) (good-sheet : refusal s ≡ 0) (within : cut ≤ traceLength s) (size : length old ≡ 10272) where

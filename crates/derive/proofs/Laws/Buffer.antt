@@ -75,7 +75,7 @@ module _ (out₀ : List ℕ) (ss : List Step) (made : ℕ) (many : length ss ≡
 
 -- the part of a buffer from a place on, lent and given back
 module _ (out : List ℕ) (from : ℕ) where
-  part-whole : take (length out - from) (drop from out) ≡ drop from out
+  pub part-whole : take (length out - from) (drop from out) ≡ drop from out
   part-whole = take-all (length out - from) (drop from out) (le-of-eq (length-drop from out))
 
   pub part-room : (k : ℕ) → from + k ≤ length out → k ≤ length (take (length out - from) (drop from out))

@@ -1,21 +1,32 @@
 -- `knowledge::gain` meets its contract: a row that was added is taken off every remainder.
-use mathlib.Core.Path.{_≡_, sym, _∙_, subst}
+use mathlib.Core.Path.{_≡_, sym, ap, _∙_, subst}
+use mathlib.Core.Bool.{Bool, cond}
 use mathlib.Core.Logic.{⊎-elim}
 use Prim.Native.Nat.{ℕ, _+_, _*_, _<_}
 use native.Mathlib.Nat.{le-refl}
 use native.Mathlib.Omega.{arith}
 use mir.Syntax.{w64}
 use mir.Val.{Fits}
+use borrow.Author.Tests.{eq-eqb, ne-eqb}
+use lib.Dec.{eqb}
 use lib.ListN.{getD}
+use mathlib.Core.List.{[]}
 use borrow.Author.Needs.{needs}
 use denote.Ref.{now}
 use Rattle.bitset.specs.Words.{value}
-use Rattle.knowledge.specs.Rows.{Remainders}
+use Rattle.knowledge.specs.Rows.{rowAt, withoutRow, Remainders}
 use Rattle.knowledge.proofs.Laws.Learn.{learn-len, ones-words}
 use Rattle.knowledge.proofs.Laws.Store.{same-refl}
 use Rattle.knowledge.proofs.Laws.Cache.{remainders-kept, remainders-swept}
 use Rattle.knowledge.proofs.gain.Statement.{statement}
 use Rattle.knowledge.proofs.gain.Tie as tie
+
+-- the choice between a table that is kept and one that is swept
+if-same : (a b x y : ℕ) → a ≡ b → x ≡ cond (eqb a b) x y
+if-same a b x y p = sym (ap (λ (t : Bool). cond t x y) (eq-eqb a b p))
+
+if-other : (a b x y : ℕ) → (a ≡ b → ⊥) → y ≡ cond (eqb a b) x y
+if-other a b x y n = sym (ap (λ (t : Bool). cond t x y) (ne-eqb a b n))
 
 -- one row more
 grown : (c : tie.Then1) → c .before .before .hear .result .len ≡ c .before .before .before .before .args .len + 1
@@ -57,7 +68,7 @@ returns c = let m = c .before .before .before .before .before in
                 subst (λ (k : ℕ). Remainders f (s .n) rs k (c .sweep .last .0)) (sym (grown (c .before .before .before)))
                 (remainders-swept f (s .n) rs (s .len) ts (c .sweep .last .0) (c .sweep .ensures .0)
                 (remainders-kept f (s .n) (s .len) ts (le-refl (2 * s .len)) (m .hear .ensures .1 .1) h)),
-            c .sweep .ensures .1,
+            (c .sweep .ensures .1, λ k l. c .sweep .ensures .0 k l ∙ if-other (m .hear .result .len) (s .len) (value (getD ts k [])) (withoutRow (value (getD ts k [])) (rowAt rs (s .len))) (c .before .before .before .if1 .taken)),
           ),
         ),
       ),
@@ -75,7 +86,7 @@ returns-2 c = let m = c .before .before in
             λ f h.
                 subst (λ (k : ℕ). Remainders f (s .n) (m .hear .last .1 .0) k (now (s .remainders))) (sym (c .if1 .left))
                 (remainders-kept f (s .n) (s .len) (now (s .remainders)) (le-refl (2 * s .len)) (m .hear .ensures .1 .1) h),
-            same-refl 0 (s .n) (now (s .remainders)),
+            (same-refl 0 (s .n) (now (s .remainders)), λ k l. if-same (m .hear .result .len) (s .len) (value (getD (now (s .remainders)) k [])) (withoutRow (value (getD (now (s .remainders)) k [])) (rowAt (m .hear .last .1 .0) (s .len))) (c .if1 .left)),
           ),
         ),
       ),

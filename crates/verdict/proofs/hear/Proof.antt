@@ -101,7 +101,7 @@ loop-again c = let a = c .before .before .before .before .before .before .before
       hear-more (now (s .args .s)) (a .loop .k) (a .loop .known) (a .loop .rows) (a .loop .len) _ _ (m .result .known) (m .last .1 .0) (m .result .len) (a .loop .inv .3) (hear-head h (a .loop .k) t q) (h .set _ (hear-low h (a .loop .k) t q)) (m .ensures .0),
       m .ensures .1 .0,
       m .ensures .1 .1 .0 .size ∙ a .loop .inv .5,
-      m .ensures .1 .1 .1 .1 .size ∙ a .loop .inv .6,
+      m .ensures .1 .1 .1 .1 .0 .size ∙ a .loop .inv .6,
       subst (λ (n : ℕ). Remainders (setAt (entryAt (now (s .args .s)))) n (m .last .1 .0) (m .result .len) (m .last .1 .1 .1 .0)) (a .loop .inv .0)
           (m .ensures .1 .1 .1 .0 (setAt (entryAt (now (s .args .s)))) (subst (λ (n : ℕ). Remainders (setAt (entryAt (now (s .args .s)))) n (a .loop .rows) (a .loop .len) (a .loop .remainders)) (sym (a .loop .inv .0)) (a .loop .inv .7))),
     )

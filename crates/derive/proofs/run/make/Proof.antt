@@ -36,7 +36,7 @@ same-length c = search needs
 returns : tie.Need-returns
 returns c = let s = c .before .before .before .before .before .before .before .before .before .before .before .args in
     let g = c .gain .ensures in
-    (c .before .before .before .before .before .before .write-step .ensures ∙ ap (λ (t : Step). stepBytes t ++ drop 40 (now (s .out))) (c .before .before .before .before .before .before .before .before .step-of .ensures), (g .0, (g .1 .0, (g .1 .1 .0, (g .1 .1 .1 .0, g .1 .1 .1 .1)))))
+    (c .before .before .before .before .before .before .write-step .ensures ∙ ap (λ (t : Step). stepBytes t ++ drop 40 (now (s .out))) (c .before .before .before .before .before .before .before .before .step-of .ensures), (g .0, (g .1 .0, (g .1 .1 .0, (g .1 .1 .1 .0, g .1 .1 .1 .1 .0)))))
 
 pub make-spec : {M : Type 1} → statement M
 make-spec =
