@@ -15,13 +15,15 @@ use lib.ListN.{length}
 use Rattle.bitset.specs.Set.{member, insert, leading}
 use Rattle.bitset.proofs.Laws.Member.{member-empty}
 use Rattle.bitset.proofs.Laws.Sums.{Inside, sum-move, ones-insert, insert-cases, below-members}
-use Rattle.deduction.specs.Elimination.{Row, Reduced, reduce, Knowledge, learn, learnAs, learnAll, nothing, Span, NoLeading, xorOver, Independent}
+use Rattle.deduction.specs.Elimination.{Row, Reduced, reduce, Knowledge, learn, learnAs, learnAll, nothing}
+use Rattle.deduction.proofs.Elimination.Spans.{Span, NoLeading, xorOver, Independent}
 use Rattle.deduction.proofs.Elimination.Sums.{xorOver-empty, xorOver-span, span-xorOver, xorOver-lt}
 use Rattle.deduction.proofs.Elimination.Reduce.{pivot, reduce-both, reduce-none}
 use Rattle.deduction.proofs.Elimination.Leading.{leading-pivot}
 use Rattle.deduction.proofs.Elimination.Rows.{Clear, rows-sum, rows-inside, rows-each, rows-clear, rows-own}
 use Rattle.deduction.proofs.Elimination.State.{Learnt, independent-learnt, zero-span, span-zero, nothing-learnt}
 use Rattle.deduction.proofs.Elimination.Learn.{learnAll-learnt}
+pub mod Spans
 pub mod Sums
 pub mod Reduce
 pub mod Leading

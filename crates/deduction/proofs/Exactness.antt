@@ -11,13 +11,14 @@ use lib.Bits.{bitXor}
 use Rattle.deduction.specs.Term.{Term}
 use Rattle.deduction.specs.Entry.{Entry, termAt, Downward}
 use Rattle.deduction.specs.Derivation.{Holds, Derivation, Derivable}
-use Rattle.deduction.specs.Within.{Closed, Reach}
+use Rattle.deduction.proofs.Exactness.Within.{Closed, Reach}
 use Rattle.deduction.proofs.Coding.{code}
 use Rattle.deduction.proofs.Terms.{termAt-build}
 use Synthesis.{Synth}
 use Analysis.{derivation-gained}
 use Invariant.{Kept, kept-closed}
 pub use Derive.{reach-derivable}
+pub mod Within
 pub mod Places
 pub mod Synthesis
 pub mod Analysis

@@ -13,7 +13,7 @@ use borrow.Author.Tests.{eqb-true, eqb-false}
 use Rattle.deduction.specs.Term.{sumOf, _≈_}
 use Rattle.deduction.specs.Entry.{Entry, termAt, Downward}
 use Rattle.deduction.specs.Standard.{xorAll, setAt, repAt, sumOfSet}
-use Rattle.deduction.specs.Elimination.{xorOver, Span}
+use Rattle.deduction.proofs.Elimination.Spans.{xorOver, Span}
 use Rattle.deduction.proofs.Coding.{code, same-code}
 use Rattle.deduction.proofs.Pieces.{by-code}
 use Rattle.deduction.proofs.Elimination.Sums.{xorAll-span, span-xorAll}

@@ -14,19 +14,21 @@ use Rattle.deduction.specs.Term.{Term, same}
 use Rattle.deduction.specs.Entry.{Entry, termAt, Downward}
 use Rattle.deduction.specs.Standard.{repAt}
 use Rattle.deduction.specs.Derivation.{Holds, Derivation, Derivable}
-use Rattle.deduction.specs.Step.{Step, Follows, Made}
+use Rattle.deduction.specs.Step.{Step, Follows}
 use Rattle.deduction.specs.Run.{knowledge, nextStep, Verdict, derivable, underivable, exhausted, run}
-use Rattle.deduction.specs.Replay.{Replays, endState}
+use Rattle.deduction.specs.Replay.{Replays}
 use Rattle.deduction.proofs.Exactness.{exactness}
 use Rattle.deduction.proofs.Standard.{rep-same}
 pub use Head.{Heads}
 pub use Next.{next-none, next-isNext, next-unique}
+pub use InOrder.{Made, made-unique}
+pub use Course.{course-unique, run-course}
 pub use Closed.{closed}
 pub use Replay.{replay-derivation, replay-derivable}
 pub use Start.{trace-heads, trace-derivable, trace-replays, trace-end}
-use Next.{knowledge-learnt}
-use Replay.{end-exact, made-replays-from}
-use Run.{Ran, ran, count-more, count-le, heads-more, ended-derivable, ended-underivable, ended-exhausted}
+use Next.{knowledge-learnt, heads-more}
+use Replay.{endState, end-exact, made-replays-from}
+use Run.{Ran, ran, count-more, count-le, ended-derivable, ended-underivable, ended-exhausted}
 pub mod Head
 pub mod Numbers
 pub mod Drawn
@@ -34,11 +36,14 @@ pub mod Offers
 pub mod Found
 pub mod Order
 pub mod Next
+pub mod InOrder
 pub mod Closed
 pub mod Held
 pub mod Replay
 pub mod Run
 pub mod Start
+pub mod Course
+pub mod Fields
 
 module _ (e : ℕ → Entry) (n : ℕ) (down : Downward e n) where
   -- steps in a row, each the next, replay from the terms of the known heads

@@ -4,8 +4,8 @@ pub mod Term
 pub mod Derivation
 pub mod Entry
 pub mod Standard
-pub mod Within
 pub mod Elimination
 pub mod Step
+pub mod Course
 pub mod Run
 pub mod Replay

@@ -1,6 +1,6 @@
 -- The replay of steps (document 01: "Ladders and their replay"): a list of terms, and steps that are right or wrong at it.
--- Defined: `Right`, a step that is right at a state; `Replays`, right steps in a row, with the state before and after; `endState`, the
--- state that steps lead to. Nothing here knows of the search, the run, the heads or the elimination.
+-- Defined: `Right`, a step that is right at a state; `Replays`, right steps in a row, with the state before and after.
+-- Nothing here knows of the search, the run, the heads or the elimination.
 use Prim.Native.Nat.{ℕ, _<_}
 use mathlib.Core.Path.{_≡_}
 use mathlib.Core.Bool.{true}
@@ -36,8 +36,3 @@ module _ (t : ℕ → Term) (n : ℕ) where
   pub data Replays : List Term → List Step → List Term → Type 0 where
     done : {g : List Term} → Replays g [] g
     next : {g a : List Term} {s : Step} {ss : List Step} → Right g s → Replays (t (s .head) ∷ g) ss a → Replays g (s ∷ ss) a
-
--- the gained heads' terms added to a state, the newest first
-unfoldable pub endState : (ℕ → Term) → List Term → List Step → List Term
-endState t g [] = g
-endState t g (s ∷ ss) = endState t (t (s .head) ∷ g) ss

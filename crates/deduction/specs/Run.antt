@@ -1,5 +1,5 @@
 -- The run: the next step found by a search, and steps made until the goal is known, nothing follows or the budget is used up.
--- Defined: `nextNumber`, `nextStep`, `Verdict`, `Outcome`, `run`. That the search finds `IsNext` is a theorem (proofs/Steps/).
+-- Defined: `nextNumber`, `nextStep`, `Outcome`, `run`. That the search finds `IsNext` and the run makes the `Course` are theorems (proofs/Steps/).
 use Prim.Native.Nat.{ℕ, zero, suc, _+_, _*_, _/_, _%_, min}
 use mathlib.Core.Bool.{Bool, true, false, cond, not, _&&_}
 use mathlib.Core.List.{List, [], _∷_, _++_}
@@ -9,6 +9,7 @@ use Rattle.deduction.specs.Entry.{Entry, Zero, Atom, Pair, Enc, Sum}
 use Rattle.deduction.specs.Standard.{setAt, repAt}
 use Rattle.deduction.specs.Elimination.{Knowledge, reduce, learnAll, nothing}
 use Rattle.deduction.specs.Step.{Step, step, unused}
+pub use Rattle.deduction.specs.Course.{Verdict, derivable, underivable, exhausted}
 
 -- what is known after learning the heads `es` in order
 unfoldable pub knowledge : (ℕ → Entry) → List ℕ → Knowledge
@@ -89,11 +90,6 @@ expand e k h (suc (suc (suc (suc (suc (suc r)))))) i = step h 6 unused unused (r
 -- the step of a number
 unfoldable pub stepAt : (ℕ → Entry) → Knowledge → ℕ → Step
 stepAt e k x = expand e k (x / 65536) (x / 256 % 256) (x % 256)
-
--- "*reached* if the goal is gained ..; *out of reach* if it isn't and no rung follows; *stopped* if it isn't, exactly b rungs were made and
--- another follows"
-pub data Verdict : Type 0 where
-  derivable underivable exhausted : Verdict
 
 -- a verdict, the steps made, and the heads known at the end in the order learnt
 pub record Outcome : Type 0 where

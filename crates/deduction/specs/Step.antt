@@ -1,11 +1,11 @@
 -- Steps (document 01: rungs): what follows from the known entries by one rule, and which step comes next.
 -- Defined: `Step`; `Follows`, the steps that the rules allow, over terms; `Before`, document 01's order; `IsNext`, the step that the order
--- names; `Made`, a row of steps each of which was the next. Nothing here searches.
+-- names. Nothing here searches.
 use Prim.Native.Nat.{ℕ, _<_}
 use mathlib.Core.Path.{_≡_}
 use mathlib.Core.Bool.{true}
 use mathlib.Core.Logic.{_⊎_}
-use mathlib.Core.List.{List, [], _∷_, _++_, map, List·Memᴰ}
+use mathlib.Core.List.{List, _∷_, _++_, map, List·Memᴰ}
 use Rattle.bitset.specs.Set.{member}
 use Rattle.deduction.specs.Term.{Term, pair, enc, sumOf, _≈_}
 use Rattle.deduction.specs.Standard.{sumOfSet}
@@ -62,8 +62,3 @@ module _ (t : ℕ → Term) (n : ℕ) where
   -- source"
   abbrev pub IsNext : List ℕ → Step → Type 0
   IsNext es s = Follows t n es s × ((r : Step) → Follows t n es r → ¬ (Before r s))
-
-  -- steps in a row, each the next where it was made
-  pub data Made : List ℕ → List Step → Type 0 where
-    none : {es : List ℕ} → Made es []
-    more : {es : List ℕ} {s : Step} {ss : List Step} → IsNext es s → Made (es ++ (s .head ∷ [])) ss → Made es (s ∷ ss)

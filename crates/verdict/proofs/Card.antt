@@ -9,7 +9,8 @@ use Rattle.deduction.specs.Run.{knowledge, offer, opened, built, offers, allOff
 use Rattle.dag.specs.Sheet.{numberAt, beginAt, listed}
 use Rattle.dag.specs.Record.{fits, decodeAs}
 use Rattle.dag.specs.Refusal.{when, orElse, first, equal, anyFrom, noSheet, badCount, shortList, badPair, badPairs, badRecord, badRecords, notListed, refusal}
-use Rattle.verdict.specs.Answer.{refusalOf, outcomeOf, answerOf}
+use Rattle.verdict.specs.Refused.{refusalOf}
+use Rattle.verdict.specs.Answer.{outcomeOf, answerOf}
 use Rattle.verdict.specs.Card.{rows, AllYield}
 
 pub card : AllYield rows

@@ -1,31 +1,21 @@
 -- What a verdict call answers and writes, for every input (document 01: "Rungs", "Grounding table").
--- Defined: `refusalOf`, `outcomeOf`, `answerOf`, `bufferOf`.
+-- The same promise as `Demanded` (specs/Demands.antt), as equations with the run. Defined: `outcomeOf`, `answerOf`, `bufferOf`.
 use Prim.Native.Nat.{ℕ, _+_, _*_}
 use mathlib.Core.Bool.{cond}
 use mathlib.Core.List.{List, _++_}
-use lib.Dec.{eqb, ltb}
+use lib.Dec.{eqb}
 use lib.ListN.{length, drop}
 use Rattle.bitset.specs.Words.{bytesOf}
-use Rattle.deduction.specs.Run.{Verdict, derivable, underivable, exhausted, Outcome, knowledge, run}
-use Rattle.dag.specs.Sheet.{countOf, traceLength, goalOf}
+use Rattle.deduction.specs.Run.{Outcome, knowledge, run}
+use Rattle.dag.specs.Sheet.{countOf, goalOf}
 use Rattle.dag.specs.Record.{entryAt}
-use Rattle.dag.specs.Refusal.{when, orElse, refusal}
 use Rattle.derive.specs.Bytes.{stepsBytes}
 use Rattle.verdict.specs.Start.{startHeads}
-
--- rows 1 to 7, then "8 past the log: cut over h", "9 over budget: budget over 256", "10 no space: buffer under 32 + 40b bytes"
-unfoldable pub refusalOf : List ℕ → ℕ → ℕ → ℕ → ℕ
-refusalOf s cut budget space =
-    orElse (refusal s) (orElse (when (ltb (traceLength s) cut) 8) (orElse (when (ltb 256 budget) 9) (when (ltb space (32 + 40 * budget)) 10)))
+use Rattle.verdict.specs.Refused.{refusalOf}
+use Rattle.verdict.specs.Demands.{verdictCode}
 
 unfoldable pub outcomeOf : List ℕ → ℕ → ℕ → Outcome
 outcomeOf s cut budget = run (entryAt s) (countOf s) (goalOf s) budget (startHeads s cut)
-
--- "1,000 for reached, 2,000 for out of reach, 3,000 for stopped"
-abbrev pub verdictCode : Verdict → ℕ
-verdictCode derivable = 1000
-verdictCode underivable = 2000
-verdictCode exhausted = 3000
 
 -- "a refusal number, or the rung count plus" the verdict's number
 unfoldable pub answerOf : List ℕ → ℕ → ℕ → ℕ → ℕ

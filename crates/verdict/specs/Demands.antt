@@ -1,22 +1,31 @@
--- The demands on a verdict call that isn't refused, as a statement about whole derivations (document 01, "Ladders and their replay").
--- Defined: `stepsIn`, the rungs read back from the returned bytes; `Passes`, the replay of them; `Meets`, the gained set and demands 2 and 3 of an answer.
--- Nothing here names the search or the run.
+-- The demands on a verdict call, as a statement about whole derivations (document 01, "Rungs", "Ladders and their replay").
+-- Defined: `stepsIn`, the rungs read back from the returned bytes; `Passes`, the replay of them; `Meets`, demands 2 and 3 of an answer and its buffer, the stop
+-- rule and every byte; `Demanded`, the whole promise, for refused calls too. Nothing here names the search, the run or the elimination, and the promise
+-- alone determines the answer and every byte (`demands-equations`, proofs/Unique.antt).
 use Prim.Native.Nat.{ℕ, zero, suc, _+_, _*_, _≤_}
 use mathlib.Core.Path.{_≡_}
 use mathlib.Core.Bool.{true}
-use mathlib.Core.Logic.{_⊎_, _↔_}
+use mathlib.Core.Logic.{_↔_}
 use mathlib.Core.List.{List, [], _∷_, _++_, map, List·Memᴰ}
-use lib.ListN.{take, drop}
+use lib.ListN.{length, take, drop}
 use Rattle.bitset.specs.Set.{member}
 use Rattle.bitset.specs.Words.{setOf}
 use Rattle.deduction.specs.Term.{Term}
 use Rattle.deduction.specs.Derivation.{Holds, Derivable}
 use Rattle.deduction.specs.Entry.{termAt}
-use Rattle.deduction.specs.Step.{Step, step, Follows, Made}
+use Rattle.deduction.specs.Step.{Step, step}
+use Rattle.deduction.specs.Course.{Verdict, derivable, underivable, exhausted, Course}
 use Rattle.deduction.specs.Replay.{Replays}
 use Rattle.dag.specs.Sheet.{numberAt, countOf, goalOf}
 use Rattle.dag.specs.Record.{entryAt}
 use Rattle.verdict.specs.Start.{startHeads, startTerms}
+use Rattle.verdict.specs.Refused.{refusalOf}
+
+-- "1,000 for reached, 2,000 for out of reach, 3,000 for stopped"
+abbrev pub verdictCode : Verdict → ℕ
+verdictCode derivable = 1000
+verdictCode underivable = 2000
+verdictCode exhausted = 3000
 
 abbrev pub goalTerm : List ℕ → Term
 goalTerm s = termAt (entryAt s) (goalOf s)
@@ -40,34 +49,30 @@ abbrev pub Passes : List ℕ → ℕ → ℕ → List ℕ → Type 0
 Passes s cut k out =
     (end : List Term) × Replays (termAt (entryAt s)) (countOf s) (startTerms s cut) (stepsIn out k) end × Holds end (goalTerm s)
 
--- the answers: "the rung count plus 1,000 for reached, 2,000 for out of reach, 3,000 for stopped"
-abbrev pub Reached : ℕ → ℕ → Type 0
-Reached answer k = (answer ≡ 1000 + k) × (k ≤ 256)
-
-abbrev pub OutOfReach : ℕ → ℕ → Type 0
-OutOfReach answer k = (answer ≡ 2000 + k) × (k ≤ 256)
-
-abbrev pub Stopped : ℕ → ℕ → Type 0
-Stopped answer k = (answer ≡ 3000 + k) × (k ≤ 256)
-
--- an answer that isn't a refusal, and the buffer it comes with
-pub record Meets (s : List ℕ) (cut budget : ℕ) (out : List ℕ) (answer : ℕ) : Type 0 where
-  -- the count k that comes with it
+-- an answer that isn't a refusal, and the buffer before and after the call
+pub record Meets (s : List ℕ) (cut budget : ℕ) (old out : List ℕ) (answer : ℕ) : Type 0 where
+  -- "the rung count plus 1,000 for reached, 2,000 for out of reach, 3,000 for stopped"
+  pub verdict : Verdict
   pub count : ℕ
-  pub kinds : Reached answer count ⊎ (OutOfReach answer count ⊎ Stopped answer count)
+  pub coded : answer ≡ verdictCode verdict + count
+  -- demand 2, and the whole stop rule: each rung is the one that document 01's order names, and the work ends where and as document 01 says
+  pub course : Course (termAt (entryAt s)) (countOf s) (goalOf s) budget (startHeads s cut) (stepsIn out count) verdict
   -- "32 bytes of gained set (bit of value 2 to the power e mod 8 in byte e div 8, for each gained head e)"
   pub known : (e : ℕ) → (member (setOf (take 32 out)) e ≡ true) ↔ List·Memᴰ e (gainedHeads s cut count out)
-  -- demand 2: each rung is the one that document 01's order names
-  pub ordered : Made (termAt (entryAt s)) (countOf s) (startHeads s cut) (stepsIn out count)
+  -- "Later bytes keep their values"
+  pub kept : drop (32 + 40 * count) out ≡ drop (32 + 40 * count) old
   -- demand 3, with a budget of at least the number of entries: "out of reach exactly when no finite ladder from the messages before the cut
   -- gains the goal, through terms of any size, on the sheet or not"
-  pub exact : countOf s ≤ budget → OutOfReach answer count ↔ (¬ Derivable (startTerms s cut) (goalTerm s))
+  pub exact : countOf s ≤ budget → (verdict ≡ underivable) ↔ (¬ Derivable (startTerms s cut) (goalTerm s))
   -- "Otherwise it answers reached"
-  pub otherwise : countOf s ≤ budget → ¬ OutOfReach answer count → Reached answer count
+  pub otherwise : countOf s ≤ budget → ¬ (verdict ≡ underivable) → verdict ≡ derivable
   -- for every budget: "the ladder returned .. has no wrong rung and gains the goal, and the rung count returned is at most the number of entries"
-  pub reached : Reached answer count → Passes s cut count out × (count ≤ countOf s)
-  pub out-of-reach : OutOfReach answer count → ¬ Derivable (startTerms s cut) (goalTerm s)
-  -- "*stopped* if it isn't [gained], exactly b rungs were made and another follows"
-  pub stopped : Stopped answer count
-      → (count ≡ budget) × (¬ Holds (map (termAt (entryAt s)) (gainedHeads s cut count out)) (goalTerm s))
-      × ((r : Step) × Follows (termAt (entryAt s)) (countOf s) (gainedHeads s cut count out) r)
+  pub passes : verdict ≡ derivable → Passes s cut count out
+  pub few : count ≤ countOf s
+  -- out of reach is exact for every budget
+  pub out-of-reach : verdict ≡ underivable → ¬ Derivable (startTerms s cut) (goalTerm s)
+
+-- the whole promise of a call: "A refusal returns its number alone; the buffer keeps every byte"; every other call meets the demands
+pub record Demanded (s : List ℕ) (cut budget : ℕ) (old out : List ℕ) (answer : ℕ) : Type 0 where
+  pub refused : ¬ (refusalOf s cut budget (length old) ≡ 0) → (answer ≡ refusalOf s cut budget (length old)) × (out ≡ old)
+  pub judged : refusalOf s cut budget (length old) ≡ 0 → Meets s cut budget old out answer

@@ -10,9 +10,10 @@ ghost use Rattle.dag.specs.Refusal.{refusal};
 ghost use Rattle.dag.specs.Code.{codeOf};
 ghost use Rattle.knowledge.specs.Rows.{Remainders};
 ghost use Rattle.knowledge.specs.State.{stateOf, Room};
-ghost use Rattle.verdict.specs.Answer.{refusalOf, answerOf, bufferOf};
 ghost use Rattle.verdict.specs.Start.{startHeads};
-ghost use Rattle.verdict.specs.Demands.{Meets};
+ghost use Rattle.verdict.specs.Refused.{refusalOf};
+ghost use Rattle.verdict.specs.Demands.{Demanded};
+ghost use Rattle.verdict.specs.Answer.{answerOf, bufferOf};
 ghost use Rattle.verdict.specs.Code.{numberOf, madeIn};
 ghost use Rattle.verdict.specs.Inner.{Heard, Decided};
 use dag::Refusal;
@@ -114,7 +115,7 @@ pub fn verdict(sheet: &[u8], cut: u32, budget: u32, out: &mut [u8]) -> Answer
     ensures answer { λ r. ⌜ numberOf r ≡ answerOf (now (sheet .entry)) cut budget (length (now (out .entry))) ⌝ }
     ensures few { λ r. ⌜ madeIn r ≤ 256 ⌝ }
     ensures bytes { λ _. ⌜ now (out .exit) ≡ bufferOf (now (sheet .entry)) cut budget (now (out .entry)) ⌝ }
-    ensures demands { λ r. ⌜ (refusalOf (now (sheet .entry)) cut budget (length (now (out .entry))) ≡ 0 → Meets (now (sheet .entry)) cut budget (now (out .exit)) (numberOf r)) ⌝ }
+    ensures demands { λ r. ⌜ Demanded (now (sheet .entry)) cut budget (now (out .entry)) (now (out .exit)) (numberOf r) ⌝ }
 {
     let r = refused(sheet, cut, budget, out.len());
     if dag::code(r) != 0 {
@@ -147,7 +148,7 @@ fn number(a: Answer) -> u32
 pub extern "C" fn zuwendryk_verdict(sheet: &[u8], cut: u32, budget: u32, buffer: &mut [u8]) -> u32
     ensures answer { λ r. ⌜ r ≡ answerOf (now (sheet .entry)) cut budget (length (now (buffer .entry))) ⌝ }
     ensures bytes { λ _. ⌜ now (buffer .exit) ≡ bufferOf (now (sheet .entry)) cut budget (now (buffer .entry)) ⌝ }
-    ensures demands { λ r. ⌜ (refusalOf (now (sheet .entry)) cut budget (length (now (buffer .entry))) ≡ 0 → Meets (now (sheet .entry)) cut budget (now (buffer .exit)) r) ⌝ }
+    ensures demands { λ r. ⌜ Demanded (now (sheet .entry)) cut budget (now (buffer .entry)) (now (buffer .exit)) r ⌝ }
 {
     number(verdict(sheet, cut, budget, buffer))
 }

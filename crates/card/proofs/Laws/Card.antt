@@ -20,8 +20,9 @@ use Rattle.dag.specs.Record.{entryAt}
 use Rattle.dag.specs.Refusal.{refusal}
 use Rattle.dag.proofs.Laws.Good.{good}
 use Rattle.derive.proofs.Laws.Buffer.{part-whole}
-use Rattle.verdict.specs.Answer.{refusalOf, outcomeOf, verdictCode, answerOf, bufferOf}
-use Rattle.verdict.specs.Demands.{readStep, stepsIn}
+use Rattle.verdict.specs.Refused.{refusalOf}
+use Rattle.verdict.specs.Demands.{verdictCode, readStep, stepsIn}
+use Rattle.verdict.specs.Answer.{outcomeOf, answerOf, bufferOf}
 use Rattle.verdict.proofs.Laws.Answered.{accepted, accepted-answer, accepted-few, accepted-known, accepted-steps, accepted-ends}
 use Rattle.line.specs.Line.{goalLine, outLine, reachedLine, stepLine, refusedLine}
 use Rattle.card.specs.Card.{stepText, stepsText, verdictText, cutText, isReached, cutsFrom, cardOf}

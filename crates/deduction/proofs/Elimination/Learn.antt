@@ -16,7 +16,8 @@ use borrow.Author.Tests.{eqb-true, eqb-false}
 use Rattle.bitset.specs.Set.{member, insert}
 use Rattle.bitset.proofs.Laws.Member.{member-single}
 use Rattle.bitset.proofs.Laws.Sums.{member-part, member-new, member-old, insert-cases, insert-own, insert-old, ones-insert}
-use Rattle.deduction.specs.Elimination.{Reduced, reduce, Knowledge, addRow, learn, learnAs, learnAll, Span, Independent}
+use Rattle.deduction.specs.Elimination.{Reduced, reduce, Knowledge, addRow, learn, learnAs, learnAll}
+use Rattle.deduction.proofs.Elimination.Spans.{Span, Independent}
 use Rattle.deduction.proofs.Elimination.Rows.{rowOf, one-more, rows-kept, row-own}
 use Rattle.deduction.proofs.Elimination.State.{Learnt, independent-learnt, zero-span, span-zero}
 

@@ -14,7 +14,8 @@ use Rattle.bitset.specs.Set.{member}
 use Rattle.bitset.proofs.Laws.Member.{member-empty, member-sum, member-single}
 use Rattle.bitset.proofs.Laws.Leading.{leading-member}
 use Rattle.bitset.proofs.Laws.Sums.{sum-cancel, sum-cancel-right, sum-swap, sum-move, Inside, member-part, member-new, member-old, inside-old, inside-rest, nothing-inside}
-use Rattle.deduction.specs.Elimination.{Row, Reduced, take-off, reduceFrom, reduce, xorOver}
+use Rattle.deduction.specs.Elimination.{Row, Reduced, take-off, reduceFrom, reduce}
+use Rattle.deduction.proofs.Elimination.Spans.{xorOver}
 use Rattle.deduction.proofs.Elimination.Sums.{xorOver-empty, xorOver-sum, xorOver-single}
 use Rattle.deduction.proofs.Elimination.Reduce.{pivot, off, both, take-off-cases, reduce-more, reduce-both, reduce-empty}
 

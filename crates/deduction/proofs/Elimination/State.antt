@@ -12,7 +12,8 @@ use lib.Count.{ones}
 use lib.ListN.{length}
 use Rattle.bitset.specs.Set.{member}
 use Rattle.bitset.proofs.Laws.Member.{member-empty}
-use Rattle.deduction.specs.Elimination.{Reduced, reduce, Knowledge, nothing, Span, none, more, xorOver, Independent}
+use Rattle.deduction.specs.Elimination.{Reduced, reduce, Knowledge, nothing}
+use Rattle.deduction.proofs.Elimination.Spans.{Span, xorOver, Independent, none, more}
 use Rattle.deduction.proofs.Elimination.Sums.{xorOver-span}
 use Rattle.deduction.proofs.Elimination.Reduce.{reduce-both, reduce-empty}
 use Rattle.deduction.proofs.Elimination.Rows.{Rows, no-rows, rows-sum, rows-inside}

@@ -16,7 +16,7 @@ use Rattle.bitset.specs.Set.{member}
 use Rattle.bitset.proofs.Laws.Member.{member-empty, member-sum, member-single, sum-assoc}
 use Rattle.bitset.proofs.Laws.Sums.{sum-cancel, sum-left-comm, member-part}
 use Rattle.deduction.specs.Standard.{xorAll}
-use Rattle.deduction.specs.Elimination.{xorOver, Span, none, more}
+use Rattle.deduction.proofs.Elimination.Spans.{xorOver, Span, none, more}
 
 module _ (s : ℕ → ℕ) where
   pub xorOver-empty : (n : ℕ) → xorOver s n 0 ≡ 0

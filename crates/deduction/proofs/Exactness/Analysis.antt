@@ -9,7 +9,7 @@ use native.Mathlib.Omega.{arith}
 use Rattle.deduction.specs.Term.{Term, pair, enc, sumOf, _≈_}
 use Rattle.deduction.specs.Entry.{Entry, build, Downward}
 use Rattle.deduction.specs.Derivation.{Holds, Derivation, begin, first, second, decrypt, join, encrypt, sum}
-use Rattle.deduction.specs.Within.{Closed}
+use Rattle.deduction.proofs.Exactness.Within.{Closed}
 use Rattle.deduction.proofs.Coding.{bit, place, place-same, code, code-zero, code-pair, code-enc, code-sum, same-code}
 use Rattle.deduction.proofs.Pieces.{by-code}
 use Rattle.deduction.proofs.Exactness.Places.{OnSheet, place-code, onSheet-decidable, pair-at, enc-at}

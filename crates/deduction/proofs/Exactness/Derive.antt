@@ -7,7 +7,7 @@ use mathlib.Core.List.{List, [], _∷_, map, List·Memᴰ, List·Memᴰ·head, L
 use Prim.Native.Nat.{ℕ}
 use Rattle.deduction.specs.Term.{Term, _≈_, same, flip, then}
 use Rattle.deduction.specs.Derivation.{Holds, Derivation, Derivable, begin, first, second, decrypt, join, encrypt, sum}
-use Rattle.deduction.specs.Within.{Reach}
+use Rattle.deduction.proofs.Exactness.Within.{Reach}
 
 -- every term of g is a term of h
 abbrev pub Among : List Term → List Term → Type 0

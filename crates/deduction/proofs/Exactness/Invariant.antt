@@ -10,7 +10,7 @@ use lib.Bits.{bitXor}
 use Rattle.bitset.specs.Set.{member}
 use Rattle.deduction.specs.Term.{Term, pair, enc, sumOf, _≈_}
 use Rattle.deduction.specs.Entry.{Entry, Zero, Atom, Pair, Enc, Sum, build, Downward}
-use Rattle.deduction.specs.Within.{Closed}
+use Rattle.deduction.proofs.Exactness.Within.{Closed}
 use Rattle.deduction.proofs.Coding.{bit, bit-own, place, place-same, code, code-zero, code-pair, code-enc, code-sum, same-code}
 use Rattle.deduction.proofs.Exactness.Places.{PlaceOf, OnSheet, entry-places}
 

@@ -12,7 +12,7 @@ use Rattle.bitset.specs.Set.{member}
 use Rattle.bitset.proofs.Laws.Member.{no-members, sum-assoc}
 use Rattle.deduction.specs.Term.{Term, 𝟎, sumOf}
 use Rattle.deduction.specs.Entry.{Entry, build, Downward}
-use Rattle.deduction.specs.Within.{Closed}
+use Rattle.deduction.proofs.Exactness.Within.{Closed}
 use Rattle.deduction.proofs.Coding.{bit, bit-own, bit-only, empty-none, member-either, member-one, place, code, code-zero, code-sum}
 use Rattle.deduction.proofs.Pieces.{by-code}
 use Rattle.deduction.proofs.Exactness.Places.{PlaceOf, OnSheet, place-code, onSheet-decidable, member-some, entry-places, pair-at, enc-at}

@@ -14,7 +14,7 @@ use Rattle.bitset.specs.Set.{member}
 use Rattle.deduction.specs.Term.{Term, _⊕_, sumOf}
 use Rattle.deduction.specs.Entry.{Entry, Zero, Atom, Pair, Enc, Sum, build, termAt, parts, Downward}
 use Rattle.deduction.specs.Standard.{Shape, shape, xorAll, setAt, sumOfSet}
-use Rattle.deduction.specs.Elimination.{xorOver}
+use Rattle.deduction.proofs.Elimination.Spans.{xorOver}
 use Rattle.deduction.proofs.Coding.{bit, place, code, code-zero, code-atom, code-pair, code-enc, code-sum}
 use Rattle.deduction.proofs.Terms.{termAt-build}
 use Rattle.deduction.proofs.Elimination.Sums.{xorOver-empty, xorOver-sum, xorOver-single}

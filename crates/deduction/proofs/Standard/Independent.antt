@@ -16,7 +16,7 @@ use Rattle.bitset.specs.Set.{member}
 use Rattle.bitset.proofs.Laws.Sums.{member-part, sum-empty-same}
 use Rattle.deduction.specs.Entry.{Entry, Zero, Atom, Pair, Enc, Sum, parts, Downward}
 use Rattle.deduction.specs.Standard.{Shape, shape, setAt, standard}
-use Rattle.deduction.specs.Elimination.{xorOver}
+use Rattle.deduction.proofs.Elimination.Spans.{xorOver}
 use Rattle.deduction.proofs.Coding.{bit, place-same}
 use Rattle.deduction.proofs.Elimination.Sums.{xorOver-sum}
 use Rattle.deduction.proofs.Standard.First.{shapeAt, first, Plain, first-same}

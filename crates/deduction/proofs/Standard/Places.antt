@@ -11,7 +11,7 @@ use lib.Bits.{bitXor}
 use Rattle.bitset.specs.Set.{member}
 use Rattle.bitset.proofs.Laws.Member.{member-empty, member-sum}
 use Rattle.bitset.proofs.Laws.Sums.{nothing-inside}
-use Rattle.deduction.specs.Elimination.{xorOver}
+use Rattle.deduction.proofs.Elimination.Spans.{xorOver}
 use Rattle.deduction.proofs.Coding.{bit, bit-own, bit-only}
 
 -- codes of one place each, all different

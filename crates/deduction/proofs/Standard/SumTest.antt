@@ -11,7 +11,8 @@ use Rattle.bitset.specs.Set.{member}
 use Rattle.deduction.specs.Term.{_⊕_, sumOf, _≈_}
 use Rattle.deduction.specs.Entry.{Entry, termAt, Downward}
 use Rattle.deduction.specs.Standard.{setAt, sumOfSet}
-use Rattle.deduction.specs.Elimination.{Knowledge, reduce, xorOver, Independent}
+use Rattle.deduction.specs.Elimination.{Knowledge, reduce}
+use Rattle.deduction.proofs.Elimination.Spans.{xorOver, Independent}
 use Rattle.deduction.proofs.Coding.{code, code-sum, same-code}
 use Rattle.deduction.proofs.Pieces.{by-code}
 use Rattle.deduction.proofs.Elimination.{reduce-sum, reduce-zero, used-unique}

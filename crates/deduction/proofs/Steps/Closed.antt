@@ -10,7 +10,7 @@ use Rattle.deduction.specs.Term.{sumOf, _≈_, in-pair, in-enc, in-sum, 
 use Rattle.deduction.specs.Entry.{Entry, termAt, Downward}
 use Rattle.deduction.specs.Standard.{setAt, repAt}
 use Rattle.deduction.specs.Elimination.{reduce}
-use Rattle.deduction.specs.Within.{Closed}
+use Rattle.deduction.proofs.Exactness.Within.{Closed}
 use Rattle.deduction.specs.Step.{Step, step, unused, Open, Follows}
 use Rattle.deduction.specs.Run.{knowledge}
 use Rattle.deduction.proofs.Elimination.{used-independent}

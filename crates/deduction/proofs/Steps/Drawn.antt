@@ -7,7 +7,7 @@ use mathlib.Core.List.{List, _∷_, _++_, List·Memᴰ, List·Memᴰ·head, Mem�
 use Prim.Native.Nat.{ℕ, _<_}
 use Rattle.deduction.specs.Entry.{Entry, termAt, Downward}
 use Rattle.deduction.specs.Standard.{setAt}
-use Rattle.deduction.specs.Elimination.{Independent}
+use Rattle.deduction.proofs.Elimination.Spans.{Independent}
 use Rattle.deduction.specs.Step.{Drawn}
 use Rattle.deduction.proofs.Standard.{span-sum}
 

@@ -1,18 +1,18 @@
 -- The step that the search finds is the next step.
 -- Shown: the search finds nothing exactly when nothing follows; what it finds follows, and nothing that follows comes before it; there is
 -- only one such step. Assumes nothing.
-use mathlib.Core.Path.{_≡_, refl, sym, _∙_}
+use mathlib.Core.Path.{_≡_, refl, sym, _∙_, subst}
 use mathlib.Core.Logic.{_↔_, _⊎_, inl, inr}
-use mathlib.Core.List.{List, List·Memᴰ}
+use mathlib.Core.List.{List, [], _∷_, _++_, List·Memᴰ, List·Memᴰ·append-cases, List·Memᴰ·eq-of-singleton}
 use Prim.Native.Nat.{ℕ, _≤_, _<_}
 use native.Mathlib.Omega.{arith}
 use Rattle.deduction.specs.Entry.{Entry, termAt, Downward}
-use Rattle.deduction.specs.Standard.{setAt}
+use Rattle.deduction.specs.Standard.{setAt, repAt}
 use Rattle.deduction.specs.Step.{Step, Open, Follows, Before, IsNext}
 use Rattle.deduction.specs.Run.{knowledge, noStep, allOffers, isSumOf, nextNumber, expand, nextStep}
 use Rattle.deduction.proofs.Elimination.{learnt-all}
 use Rattle.deduction.proofs.Elimination.State.{Learnt}
-use Rattle.deduction.proofs.Steps.Head.{Heads}
+use Rattle.deduction.proofs.Steps.Head.{Heads, head-rep}
 use Rattle.deduction.proofs.Steps.Numbers.{numberOf, least-under, least-one}
 use Rattle.deduction.proofs.Steps.Offers.{follows-offered, follows-expand}
 use Rattle.deduction.proofs.Steps.Found.{offered-found}
@@ -26,6 +26,14 @@ follows-open e n (Follows.decrypt o m c q) = o
 follows-open e n (Follows.join o m c q) = o
 follows-open e n (Follows.encrypt o m c q) = o
 follows-open e n (Follows.sum u o f q) = o
+
+module _ (e : ℕ → Entry) (n : ℕ) (down : Downward e n) where
+  -- with the head of a step that follows, heads stay heads
+  pub heads-more : (es : List ℕ) (s : Step) → Heads e n es → Follows (termAt e) n es s → Heads e n (es ++ (s .head ∷ []))
+  heads-more es s hs f i m = elim (List·Memᴰ·append-cases es m) [ inl c ↦ hs i c | inr c ↦ subst (λ (j : ℕ). (j < n) × (repAt e j ≡ j)) (sym (List·Memᴰ·eq-of-singleton c)) own ]
+    where
+      own : (s .head < n) × (repAt e (s .head) ≡ s .head)
+      own = let o = follows-open e n f in (o .0 .0, head-rep e n down (s .head) (o .0))
 
 module _ (e : ℕ → Entry) (n : ℕ) (down : Downward e n) (es : List ℕ) (heads : Heads e n es) where
   -- what is known after learning the heads

@@ -1,4 +1,5 @@
 -- Replays, over the terms of any entries.
+-- Defined: `endState`, the state that steps lead to.
 -- Shown: a replay's end is `endState`, which holds the first state and the gained heads; a replay from one state is one from any state that
 -- holds as much; a replay that passes is a derivation, up to ≈; steps in a row that follow replay. Assumes nothing.
 use mathlib.Core.Path.{_≡_, refl, sym, ap, subst}
@@ -10,8 +11,9 @@ use Rattle.bitset.specs.Set.{member}
 use Rattle.deduction.specs.Term.{Term, _⊕_, sumOf, _≈_, same, flip}
 use Rattle.deduction.specs.Derivation.{Holds, Derivation, Derivable}
 use Rattle.deduction.specs.Standard.{sumOfSet}
-use Rattle.deduction.specs.Step.{Step, Drawn, Follows, Made}
-use Rattle.deduction.specs.Replay.{Used, Right, Replays, done, next, endState}
+use Rattle.deduction.specs.Step.{Step, Drawn, Follows}
+use Rattle.deduction.specs.Replay.{Used, Right, Replays, done, next}
+use Rattle.deduction.proofs.Steps.InOrder.{Made}
 use Rattle.deduction.proofs.Steps.Held.{Keeps, Alike, held-same, held-newest, held-older, keeps-newest}
 
 -- the terms of a set's members, as a list
@@ -24,6 +26,11 @@ set-list t P (suc m) u f = go (member u m) refl (set-list t P m u f)
         → (ts : List Term) × ((v : Term) → List·Memᴰ v ts → P v) × (sumOf ts ≡ cond b (t m ⊕ sumOfSet t m u) (sumOfSet t m u))
     go true p (ts, h, q) = (t m ∷ ts, λ v i. elim (List·Memᴰ·cases-cons i) [ inl r ↦ subst P (sym r) (f m p) | inr r ↦ h v r ], ap (λ (x : Term). t m ⊕ x) q)
     go false p r = r
+
+-- the gained heads' terms added to a state, the newest first
+unfoldable pub endState : (ℕ → Term) → List Term → List Step → List Term
+endState t g [] = g
+endState t g (s ∷ ss) = endState t (t (s .head) ∷ g) ss
 
 module _ (t : ℕ → Term) where
   -- the end holds the first state and the gained heads, and nothing else

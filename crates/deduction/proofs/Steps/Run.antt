@@ -2,10 +2,10 @@
 -- Defined: `Ran`, that description.
 -- Shown: every run has it; what each verdict says of the last state; a step adds one to the number of known heads, which is at most n.
 -- Assumes nothing.
-use mathlib.Core.Path.{_≡_, refl, sym, ap, ap₂, _∙_, subst}
+use mathlib.Core.Path.{_≡_, refl, sym, ap, ap₂, _∙_}
 use mathlib.Core.Bool.{Bool, true, false, true≢false, cond, not, _&&_}
 use mathlib.Core.Logic.{_⊎_, inl, inr}
-use mathlib.Core.List.{List, [], _∷_, _++_, map, append-nil, append-assoc, List·Memᴰ·append-cases, List·Memᴰ·eq-of-singleton}
+use mathlib.Core.List.{List, [], _∷_, _++_, map, append-nil, append-assoc}
 use Prim.Native.Nat.{ℕ, zero, suc, _+_, _≤_, _<_}
 use native.Mathlib.Omega.{arith}
 use lib.Count.{ones, ones-le}
@@ -17,13 +17,14 @@ use Rattle.bitset.proofs.Laws.Sums.{ones-insert}
 use Rattle.deduction.specs.Entry.{Entry, termAt, Downward}
 use Rattle.deduction.specs.Standard.{setAt, repAt}
 use Rattle.deduction.specs.Elimination.{Row, Knowledge, learnAs, nothing}
-use Rattle.deduction.specs.Step.{Step, Follows, IsNext, Made}
+use Rattle.deduction.specs.Step.{Step, Follows, IsNext}
 use Rattle.deduction.specs.Run.{knowledge, noStep, nextNumber, derivable, underivable, exhausted, Outcome, after, reached, nextStep, goesOn, ended, run}
 use Rattle.deduction.proofs.Elimination.{learnAll-more, known-below}
 use Rattle.deduction.proofs.Standard.First.{both-true}
-use Rattle.deduction.proofs.Steps.Head.{Heads, head-rep}
+use Rattle.deduction.proofs.Steps.Head.{Heads}
 use Rattle.deduction.proofs.Steps.Offers.{not-known}
-use Rattle.deduction.proofs.Steps.Next.{follows-open, knowledge-learnt, next-isNext}
+use Rattle.deduction.proofs.Steps.Next.{follows-open, heads-more, knowledge-learnt, next-isNext}
+use Rattle.deduction.proofs.Steps.InOrder.{Made}
 
 -- the gained heads of steps
 abbrev pub heads : List Step → List ℕ
@@ -77,12 +78,6 @@ unfolding knowledge
 known-more e es h p = ap (λ (k : Knowledge). k .known) (learnAll-more (setAt e) nothing es h) ∙ learn-new (knowledge e es) h (setAt e h) p
 
 module _ (e : ℕ → Entry) (n : ℕ) (down : Downward e n) where
-  pub heads-more : (es : List ℕ) (s : Step) → Heads e n es → Follows (termAt e) n es s → Heads e n (es ++ (s .head ∷ []))
-  heads-more es s hs f i m = elim (List·Memᴰ·append-cases es m) [ inl c ↦ hs i c | inr c ↦ subst (λ (j : ℕ). (j < n) × (repAt e j ≡ j)) (sym (List·Memᴰ·eq-of-singleton c)) own ]
-    where
-      own : (s .head < n) × (repAt e (s .head) ≡ s .head)
-      own = let o = follows-open e n f in (o .0 .0, head-rep e n down (s .head) (o .0))
-
   -- a step that follows adds one to the number of known heads, and there are at most n
   pub count-more : (es : List ℕ) (s : Step) → Heads e n es → Follows (termAt e) n es s → ones (knowledge e (es ++ (s .head ∷ [])) .known) ≡ suc (ones (knowledge e es .known))
   count-more es s hs f =
@@ -143,7 +138,7 @@ module _ (e : ℕ → Entry) (n : ℕ) (down : Downward e n) where
         where
           go : (c : Bool) → goesOn e n goal es ≡ c → (Heads e n (es ++ (nextStep e n es .head ∷ [])) → Ran goal b (es ++ (nextStep e n es .head ∷ [])) (run e n goal b (es ++ (nextStep e n es .head ∷ []))))
               → Ran goal (suc b) es (elim c as (λ x. Outcome) [ true ↦ after (nextStep e n es) (run e n goal b (es ++ (nextStep e n es .head ∷ []))) | false ↦ ended e n goal es ])
-          go true p ih = ran-after b es (nextStep e n es) _ hs next (ih (heads-more es (nextStep e n es) hs (next .0)))
+          go true p ih = ran-after b es (nextStep e n es) _ hs next (ih (heads-more e n down es (nextStep e n es) hs (next .0)))
             where
               next : IsNext (termAt e) n es (nextStep e n es)
               next =

@@ -10,11 +10,11 @@ use Rattle.deduction.specs.Entry.{Entry, termAt, Downward}
 use Rattle.deduction.specs.Standard.{repAt}
 use Rattle.deduction.specs.Derivation.{Derivable}
 use Rattle.deduction.specs.Step.{Step}
-use Rattle.deduction.specs.Replay.{Replays, endState}
+use Rattle.deduction.specs.Replay.{Replays}
 use Rattle.deduction.proofs.Standard.{rep-rep, rep-same}
 use Rattle.deduction.proofs.Steps.Head.{Heads, rep-below}
 use Rattle.deduction.proofs.Steps.Held.{Keeps, Alike, derivable-kept}
-use Rattle.deduction.proofs.Steps.Replay.{end-kept, replays-kept}
+use Rattle.deduction.proofs.Steps.Replay.{endState, end-kept, replays-kept}
 
 module _ (e : ℕ → Entry) (n : ℕ) (down : Downward e n) (trace : List ℕ) (below : (i : ℕ) → List·Memᴰ i trace → i < n) where
   -- the heads of the heard entries are heads

@@ -1,5 +1,5 @@
 -- The rows 8 to 10 after 1 to 7, and the answer of a call that is refused or not. Assumes nothing.
-use mathlib.Core.Path.{_≡_, sym, ap, ap₂, _∙_, subst}
+use mathlib.Core.Path.{_≡_, refl, sym, ap, ap₂, _∙_, subst}
 use mathlib.Core.Bool.{Bool, cond}
 use mathlib.Core.List.{List, _++_}
 use Prim.Native.Nat.{ℕ, _+_, _*_, _≤_, _<_}
@@ -18,8 +18,9 @@ use Rattle.derive.specs.Bytes.{stepsBytes}
 use Rattle.derive.specs.Ran.{verdictOf}
 use Rattle.derive.specs.declared.run.Ended.{Ended}
 use Rattle.derive.specs.declared.run.Verdict as program
-use Rattle.verdict.specs.Answer.{refusalOf, outcomeOf, verdictCode, answerOf, bufferOf}
-use Rattle.verdict.specs.Demands.{stepsIn, Meets}
+use Rattle.verdict.specs.Refused.{refusalOf}
+use Rattle.verdict.specs.Demands.{verdictCode, stepsIn, Meets, Demanded}
+use Rattle.verdict.specs.Answer.{outcomeOf, answerOf, bufferOf}
 use Rattle.verdict.specs.Inner.{Decided}
 use Rattle.verdict.proofs.Laws.Demands.{few-steps, known-read, steps-read, run-ends, meets}
 
@@ -122,6 +123,9 @@ refused-buffer s cut budget old n =
     old)
     (ne-eqb (refusalOf s cut budget (length old)) 0 n))
 
+pub refused-demands : (s : List ℕ) (cut budget : ℕ) (old : List ℕ) (answer : ℕ) → answer ≡ refusalOf s cut budget (length old) → (refusalOf s cut budget (length old) ≡ 0 → ⊥) → Demanded s cut budget old old answer
+refused-demands s cut budget old answer p n = record { refused = λ _. (p, refl); judged = λ z. absurd (n z) }
+
 -- a call that isn't refused, by the definitions: its answer, its buffer, and what is read back from that
 module _ (s : List ℕ) (cut budget : ℕ) (old : List ℕ) (ok : refusalOf s cut budget (length old) ≡ 0) where
   abbrev o : Outcome
@@ -155,6 +159,12 @@ module _ (s : List ℕ) (cut budget : ℕ) (old : List ℕ) (ok : refusalOf s cu
       ap (λ (b : List ℕ). stepsIn b (length (o .steps))) accepted-buffer
       ∙ steps-read s cut budget (ok-sheet s cut budget (length old) ok) (ok-cut s cut budget (length old) ok) (drop (32 + 40 * length (o .steps)) old)
 
+  pub accepted-meets : Meets s cut budget old (bufferOf s cut budget old) (answerOf s cut budget (length old))
+  accepted-meets =
+      subst (λ (a : ℕ). Meets s cut budget old (bufferOf s cut budget old) a) (sym accepted-answer)
+      (subst (λ (b : List ℕ). Meets s cut budget old b (verdictCode (o .verdict) + length (o .steps))) (sym accepted-buffer)
+      (meets s cut budget (ok-sheet s cut budget (length old) ok) (ok-cut s cut budget (length old) ok) old))
+
   pub accepted-ends : countOf s ≤ budget → ¬ (o .verdict ≡ exhausted)
   accepted-ends = run-ends s cut budget (ok-sheet s cut budget (length old) ok) (ok-cut s cut budget (length old) ok)
 
@@ -172,8 +182,11 @@ module _ (s : List ℕ) (cut budget : ℕ) (out out′ : List ℕ) (r : Ended) (
   pub answered-buffer : out′ ≡ bufferOf s cut budget out
   answered-buffer = d .bytes ∙ sym (accepted-buffer s cut budget out ok)
 
-  pub answered-meets : Meets s cut budget out′ (verdictCode (verdictOf v) + r .made)
-  answered-meets =
-      subst (λ (o : List ℕ). Meets s cut budget o (verdictCode (verdictOf v) + r .made)) (sym (d .bytes))
-      (meets s cut budget (ok-sheet s cut budget (length out) ok) (ok-cut s cut budget (length out) ok) (verdictCode (verdictOf v) + r .made) number-is
-      (drop (32 + 40 * length (outcomeOf s cut budget .steps)) out))
+  pub answered-demands : Demanded s cut budget out out′ (verdictCode (verdictOf v) + r .made)
+  answered-demands =
+      record {
+        refused = λ n. absurd (n ok);
+        judged = λ p.
+            subst (λ (a : ℕ). Meets s cut budget out out′ a) (sym answered)
+            (subst (λ (b : List ℕ). Meets s cut budget out b (answerOf s cut budget (length out))) (sym answered-buffer) (accepted-meets s cut budget out ok));
+      }

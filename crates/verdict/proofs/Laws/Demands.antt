@@ -1,15 +1,15 @@
 -- The demands of a call that isn't refused, from the theorems over steps and derivations.
 -- Shown: `meets`, for a good sheet and the outcome of its run, in a buffer of its known set, its steps and whatever follows. Assumes nothing.
-use mathlib.Core.Path.{_≡_, refl, sym, ap, _∙_, subst}
+use mathlib.Core.Path.{_≡_, refl, sym, ap, ap₂, _∙_, subst}
 use mathlib.Core.Bool.{true}
-use mathlib.Core.Logic.{_⊎_, inl, inr, ⊎-elim, _↔_}
-use mathlib.Core.List.{List, [], _∷_, _++_, map, List·Memᴰ, List·Memᴰ·not-nil, List·Memᴰ·head, List·Memᴰ·tail, List·Memᴰ·cases-cons, List·Memᴰ·append-cases, List·Memᴰ·eq-of-singleton, Memᴰ·append-right, Memᴰ·cast}
-use Prim.Native.Nat.{ℕ, zero, suc, _+_, _^_, _≤_, _<_}
+use mathlib.Core.Logic.{⊎-elim, _↔_}
+use mathlib.Core.List.{List, [], _∷_, _++_, map, List·Memᴰ, List·Memᴰ·not-nil, List·Memᴰ·head, List·Memᴰ·tail, List·Memᴰ·cases-cons, List·Memᴰ·append-cases, List·Memᴰ·eq-of-singleton, Memᴰ·append-right, append-assoc}
+use Prim.Native.Nat.{ℕ, zero, suc, _+_, _*_, _^_, _≤_, _<_}
 use native.Mathlib.Nat.{le-trans, lt-of-lt-of-le, mod-eq-of-lt, le-refl}
 use native.Mathlib.Omega.{arith}
-use lib.ListN.{length, take}
+use lib.ListN.{length, take, drop, length-append}
 use lib.Pow.{pow-mono, pow-pos}
-use lib.Seq.{take-at}
+use lib.Seq.{take-at, drop-at}
 use Rattle.bitset.specs.Set.{member}
 use Rattle.bitset.specs.Words.{setOf, bytesOf}
 use Rattle.bitset.proofs.Laws.Bytes.{length-bytesOf, setOf-bytesOf}
@@ -17,20 +17,21 @@ use Rattle.bitset.proofs.Laws.Sums.{below-members}
 use Rattle.deduction.specs.Term.{Term, sumOf, _≈_}
 use Rattle.deduction.specs.Derivation.{Holds, Derivable}
 use Rattle.deduction.specs.Entry.{Entry, termAt, Downward}
-use Rattle.deduction.specs.Standard.{repAt}
-use Rattle.deduction.specs.Step.{Step, Follows, Made}
-use Rattle.deduction.specs.Run.{Verdict, derivable, underivable, exhausted, Outcome, knowledge}
-use Rattle.deduction.specs.Replay.{Replays, endState}
-use Rattle.deduction.proofs.Steps.{Heads, made, learnt-steps, learnt-heads, known-set, steps-le, exhausted-exact, run-enough, trace-run-replays, trace-underivable-exact, trace-underivable-iff, trace-heads}
-use Rattle.deduction.proofs.Standard.{rep-equal}
+use Rattle.deduction.specs.Step.{Step, Follows}
+use Rattle.deduction.specs.Course.{Verdict, derivable, underivable, exhausted, Course}
+use Rattle.deduction.specs.Run.{Outcome, knowledge}
+use Rattle.deduction.specs.Replay.{Replays}
+use Rattle.deduction.proofs.Steps.{Heads, Made, made, learnt-steps, learnt-heads, known-set, steps-le, run-enough, run-course, trace-run-replays, trace-underivable-exact, trace-underivable-iff, trace-heads}
+use Rattle.deduction.proofs.Steps.Replay.{endState}
 use Rattle.dag.specs.Sheet.{countOf, goalOf, traceAt, traceLength, traceOf, listed}
 use Rattle.dag.specs.Record.{entryAt}
 use Rattle.dag.specs.Refusal.{refusal}
 use Rattle.dag.proofs.Laws.Good.{Good, good}
 use Rattle.derive.specs.Bytes.{stepsBytes}
-use Rattle.verdict.specs.Answer.{outcomeOf, verdictCode}
+use Rattle.derive.proofs.Laws.Buffer.{steps-length}
+use Rattle.verdict.specs.Answer.{outcomeOf}
 use Rattle.verdict.specs.Start.{startHeads, startTerms}
-use Rattle.verdict.specs.Demands.{goalTerm, stepsIn, Reached, OutOfReach, Stopped, Meets}
+use Rattle.verdict.specs.Demands.{verdictCode, goalTerm, stepsIn, Meets}
 use Rattle.verdict.proofs.Laws.Readback.{Narrow, read-back}
 
 -- the set of a step that follows has members below n only
@@ -73,17 +74,9 @@ trace-below s g cut h i m =
     let (k, l, p) = listed-from (traceAt s) cut i m in
     subst (λ (x : ℕ). x < countOf s) (sym p) (g .listed k (le-trans l h))
 
-mapped-from : (f : ℕ → Term) (l : List ℕ) (u : Term) → List·Memᴰ u (map f l) → (i : ℕ) × List·Memᴰ i l × (u ≡ f i)
-mapped-from f [] u m = absurd (List·Memᴰ·not-nil m)
-mapped-from f (x ∷ l) u m =
-    ⊎-elim (λ p. (x, List·Memᴰ·head refl, p)) (λ q. let (i, k, p) = mapped-from f l u q in (i, List·Memᴰ·tail k, p)) (List·Memᴰ·cases-cons m)
-
--- a known term is known as its head
-held-known : (e : ℕ → Entry) (n : ℕ) → Downward e n → (es : List ℕ) → Heads e n es → (goal : ℕ) → goal < n → Holds (map (termAt e) es) (termAt e goal) → List·Memᴰ (repAt e goal) es
-held-known e n down es heads goal low (u, m, p) =
-    let (i, k, q) = mapped-from (termAt e) es u m in
-    let same : repAt e i ≡ repAt e goal = rep-equal e n down i goal (heads i k .0) low .1 (subst (λ (v : Term). v ≈ termAt e goal) q p) in
-    Memᴰ·cast (sym same ∙ heads i k .1) k
+-- what stands after two pieces of a buffer
+front-kept : (a b rest : List ℕ) (n : ℕ) → length a + length b ≡ n → drop n (a ++ (b ++ rest)) ≡ rest
+front-kept a b rest n l = ap (drop n) (sym (append-assoc a b rest)) ∙ drop-at (a ++ b) rest n (length-append a b ∙ l)
 
 module _ (s : List ℕ) (cut budget : ℕ) (ok : refusal s ≡ 0) (within : cut ≤ traceLength s) where
   g : Good s
@@ -97,15 +90,15 @@ module _ (s : List ℕ) (cut budget : ℕ) (ok : refusal s ≡ 0) (within : cut 
   below : (i : ℕ) → List·Memᴰ i (traceOf s cut) → i < countOf s
   below = trace-below s g cut within
 
-  heads : Heads (entryAt s) (countOf s) (startHeads s cut)
-  heads = trace-heads (entryAt s) (countOf s) (g .downward) (traceOf s cut) below
+  pub start-is-heads : Heads (entryAt s) (countOf s) (startHeads s cut)
+  start-is-heads = trace-heads (entryAt s) (countOf s) (g .downward) (traceOf s cut) below
 
   run-made : Made (termAt (entryAt s)) (countOf s) (startHeads s cut) (o .steps)
   unfolding outcomeOf
-  run-made = made (entryAt s) (countOf s) (g .downward) (g .few) (goalOf s) budget (startHeads s cut) heads
+  run-made = made (entryAt s) (countOf s) (g .downward) (g .few) (goalOf s) budget (startHeads s cut) start-is-heads
 
   run-narrow : (r : Step) → List·Memᴰ r (o .steps) → Narrow r
-  run-narrow = made-narrow (entryAt s) (countOf s) (g .downward) (g .few) run-made (λ i m. heads i m .0)
+  run-narrow = made-narrow (entryAt s) (countOf s) (g .downward) (g .few) run-made (λ i m. start-is-heads i m .0)
 
   -- the set of the known heads, and the bytes that hold it
   abbrev gained : ℕ
@@ -113,18 +106,18 @@ module _ (s : List ℕ) (cut budget : ℕ) (ok : refusal s ≡ 0) (within : cut 
 
   run-learnt : o .learnt ≡ startHeads s cut ++ map (λ (r : Step). r .head) (o .steps)
   unfolding outcomeOf
-  run-learnt = learnt-steps (entryAt s) (countOf s) (g .downward) (g .few) (goalOf s) budget (startHeads s cut) heads
+  run-learnt = learnt-steps (entryAt s) (countOf s) (g .downward) (g .few) (goalOf s) budget (startHeads s cut) start-is-heads
 
   run-known : (e : ℕ) → (member gained e ≡ true) ↔ List·Memᴰ e (o .learnt)
   unfolding outcomeOf
-  run-known = known-set (entryAt s) (countOf s) (g .downward) (g .few) (goalOf s) budget (startHeads s cut) heads
+  run-known = known-set (entryAt s) (countOf s) (g .downward) (g .few) (goalOf s) budget (startHeads s cut) start-is-heads
 
   run-below : gained < 2 ^ 256
   unfolding outcomeOf
   run-below = lt-of-lt-of-le (below-members (countOf s) gained (λ e m. all-heads e (run-known e .0 m) .0)) (pow-mono (g .few))
     where
       all-heads : Heads (entryAt s) (countOf s) (o .learnt)
-      all-heads = learnt-heads (entryAt s) (countOf s) (g .downward) (g .few) (goalOf s) budget (startHeads s cut) heads
+      all-heads = learnt-heads (entryAt s) (countOf s) (g .downward) (g .few) (goalOf s) budget (startHeads s cut) start-is-heads
 
   pub known-read : (rest : List ℕ) → setOf (take 32 (bytesOf 32 gained ++ rest)) ≡ gained
   known-read rest = ap setOf (take-at (bytesOf 32 gained) rest 32 (length-bytesOf 32 gained)) ∙ setOf-bytesOf 32 gained ∙ mod-eq-of-lt run-below
@@ -135,7 +128,7 @@ module _ (s : List ℕ) (cut budget : ℕ) (ok : refusal s ≡ 0) (within : cut 
 
   run-few : length (o .steps) ≤ countOf s
   unfolding outcomeOf
-  run-few = steps-le (entryAt s) (countOf s) (g .downward) (g .few) (goalOf s) budget (startHeads s cut) heads
+  run-few = steps-le (entryAt s) (countOf s) (g .downward) (g .few) (goalOf s) budget (startHeads s cut) start-is-heads
 
   pub few-steps : length (o .steps) ≤ 256
   few-steps = le-trans run-few (g .few)
@@ -156,80 +149,35 @@ module _ (s : List ℕ) (cut budget : ℕ) (ok : refusal s ≡ 0) (within : cut 
 
   pub run-ends : countOf s ≤ budget → ¬ (o .verdict ≡ exhausted)
   unfolding outcomeOf
-  run-ends = run-enough (entryAt s) (countOf s) (g .downward) (g .few) (goalOf s) budget (startHeads s cut) heads
+  run-ends = run-enough (entryAt s) (countOf s) (g .downward) (g .few) (goalOf s) budget (startHeads s cut) start-is-heads
 
-  run-stopped : o .verdict ≡ exhausted
-      → (length (o .steps) ≡ budget) × (¬ Holds (map (termAt (entryAt s)) (startHeads s cut ++ map (λ (r : Step). r .head) (o .steps))) (goalTerm s))
-      × ((r : Step) × Follows (termAt (entryAt s)) (countOf s) (startHeads s cut ++ map (λ (r : Step). r .head) (o .steps)) r)
+  pub run-is-course : Course (termAt (entryAt s)) (countOf s) (goalOf s) budget (startHeads s cut) (o .steps) (o .verdict)
   unfolding outcomeOf
-  run-stopped p =
-      let (q, unknown, (r, f)) = exhausted-exact (entryAt s) (countOf s) (g .downward) (g .few) (goalOf s) budget (startHeads s cut) heads p in
-      let l = run-learnt in (
-        q,
-        (λ h. unknown (held-known (entryAt s) (countOf s) (g .downward) (o .learnt) (learnt-heads (entryAt s) (countOf s) (g .downward) (g .few) (goalOf s) budget (startHeads s cut) heads) (goalOf s) (g .goal)
-            (subst (λ (es : List ℕ). Holds (map (termAt (entryAt s)) es) (goalTerm s)) (sym l) h))),
-        (r, subst (λ (es : List ℕ). Follows (termAt (entryAt s)) (countOf s) es r) l f),
-      )
+  run-is-course = run-course (entryAt s) (countOf s) (g .downward) (goalOf s) (g .goal) (g .few) budget (startHeads s cut) start-is-heads
 
-  -- the number of a verdict and a count names both
-  module _ (answer : ℕ) (is : answer ≡ verdictCode (o .verdict) + length (o .steps)) where
-    as-verdict : (v : Verdict) → o .verdict ≡ v → answer ≡ verdictCode v + length (o .steps)
-    as-verdict v p = is ∙ ap (λ (w : Verdict). verdictCode w + length (o .steps)) p
+  settled : countOf s ≤ budget → ¬ (o .verdict ≡ underivable) → (v : Verdict) → o .verdict ≡ v → o .verdict ≡ derivable
+  settled l n derivable p = p
+  settled l n underivable p = absurd (n p)
+  settled l n exhausted p = absurd (run-ends l p)
 
-    is-reached : Reached answer (length (o .steps)) → o .verdict ≡ derivable
-    is-reached h = go (o .verdict) refl
-      where
-        go : (v : Verdict) → o .verdict ≡ v → o .verdict ≡ derivable
-        go derivable p = p
-        go underivable p = absurd (omega (arith, h .0, as-verdict underivable p))
-        go exhausted p = absurd (omega (arith, h .0, as-verdict exhausted p))
-
-    is-out : OutOfReach answer (length (o .steps)) → o .verdict ≡ underivable
-    is-out h = go (o .verdict) refl
-      where
-        go : (v : Verdict) → o .verdict ≡ v → o .verdict ≡ underivable
-        go derivable p = absurd (omega (arith, h .0, as-verdict derivable p))
-        go underivable p = p
-        go exhausted p = absurd (omega (arith, h .0, as-verdict exhausted p))
-
-    is-stopped : Stopped answer (length (o .steps)) → o .verdict ≡ exhausted
-    is-stopped h = go (o .verdict) refl
-      where
-        go : (v : Verdict) → o .verdict ≡ v → o .verdict ≡ exhausted
-        go derivable p = absurd (omega (arith, h .0, as-verdict derivable p))
-        go underivable p = absurd (omega (arith, h .0, as-verdict underivable p))
-        go exhausted p = p
-
-    kind : (v : Verdict) → o .verdict ≡ v → Reached answer (length (o .steps)) ⊎ (OutOfReach answer (length (o .steps)) ⊎ Stopped answer (length (o .steps)))
-    kind derivable p = inl (as-verdict derivable p, few-steps)
-    kind underivable p = inr (inl (as-verdict underivable p, few-steps))
-    kind exhausted p = inr (inr (as-verdict exhausted p, few-steps))
-
-    settled : countOf s ≤ budget → ¬ OutOfReach answer (length (o .steps)) → (v : Verdict) → o .verdict ≡ v → Reached answer (length (o .steps))
-    settled l n derivable p = (as-verdict derivable p, few-steps)
-    settled l n underivable p = absurd (n (as-verdict underivable p, few-steps))
-    settled l n exhausted p = absurd (run-ends l p)
-
-    -- the demands, read off the buffer
-    pub meets : (rest : List ℕ) → Meets s cut budget (bytesOf 32 gained ++ (stepsBytes (o .steps) ++ rest)) answer
-    meets rest =
-        let out = bytesOf 32 gained ++ (stepsBytes (o .steps) ++ rest) in
-        let back : o .steps ≡ stepsIn out (length (o .steps)) = sym (steps-read rest) in
-        record {
-          count = length (o .steps);
-          kinds = kind (o .verdict) refl;
-          known = subst (λ (es : List ℕ). (e : ℕ) → (member (setOf (take 32 out)) e ≡ true) ↔ List·Memᴰ e es)
-              (run-learnt ∙ ap (λ (ss : List Step). startHeads s cut ++ map (λ (r : Step). r .head) ss) back)
-              (subst (λ (u : ℕ). (e : ℕ) → (member u e ≡ true) ↔ List·Memᴰ e (o .learnt)) (sym (known-read (stepsBytes (o .steps) ++ rest))) run-known);
-          ordered = subst (Made (termAt (entryAt s)) (countOf s) (startHeads s cut)) back run-made;
-          exact = λ l. ((λ h. run-iff l .0 (is-out h)), λ n. (as-verdict underivable (run-iff l .1 n), few-steps));
-          otherwise = λ l n. settled l n (o .verdict) refl;
-          reached = λ h. (subst (λ (ss : List Step). (end : List Term) × Replays (termAt (entryAt s)) (countOf s) (startTerms s cut) ss end × Holds end (goalTerm s)) back (run-passes (is-reached h)), run-few);
-          out-of-reach = λ h. run-out (is-out h);
-          stopped = λ h.
-              subst
-              (λ (ss : List Step).
-              (length (o .steps) ≡ budget) × (¬ Holds (map (termAt (entryAt s)) (startHeads s cut ++ map (λ (r : Step). r .head) ss)) (goalTerm s))
-              × ((r : Step) × Follows (termAt (entryAt s)) (countOf s) (startHeads s cut ++ map (λ (r : Step). r .head) ss) r))
-              back (run-stopped (is-stopped h));
-        }
+  -- the demands, read off the buffer
+  pub meets : (old : List ℕ) → Meets s cut budget old (bytesOf 32 gained ++ (stepsBytes (o .steps) ++ drop (32 + 40 * length (o .steps)) old)) (verdictCode (o .verdict) + length (o .steps))
+  meets old =
+      let rest = drop (32 + 40 * length (o .steps)) old in
+      let out = bytesOf 32 gained ++ (stepsBytes (o .steps) ++ rest) in
+      let back : o .steps ≡ stepsIn out (length (o .steps)) = sym (steps-read rest) in
+      record {
+        verdict = o .verdict;
+        count = length (o .steps);
+        coded = refl;
+        course = subst (λ (ss : List Step). Course (termAt (entryAt s)) (countOf s) (goalOf s) budget (startHeads s cut) ss (o .verdict)) back run-is-course;
+        known = subst (λ (es : List ℕ). (e : ℕ) → (member (setOf (take 32 out)) e ≡ true) ↔ List·Memᴰ e es)
+            (run-learnt ∙ ap (λ (ss : List Step). startHeads s cut ++ map (λ (r : Step). r .head) ss) back)
+            (subst (λ (u : ℕ). (e : ℕ) → (member u e ≡ true) ↔ List·Memᴰ e (o .learnt)) (sym (known-read (stepsBytes (o .steps) ++ rest))) run-known);
+        kept = front-kept (bytesOf 32 gained) (stepsBytes (o .steps)) rest (32 + 40 * length (o .steps)) (ap₂ _+_ (length-bytesOf 32 gained) (steps-length (o .steps)));
+        exact = run-iff;
+        otherwise = λ l n. settled l n (o .verdict) refl;
+        passes = λ p. subst (λ (ss : List Step). (end : List Term) × Replays (termAt (entryAt s)) (countOf s) (startTerms s cut) ss end × Holds end (goalTerm s)) back (run-passes p);
+        few = run-few;
+        out-of-reach = run-out;
+      }

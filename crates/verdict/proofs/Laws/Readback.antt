@@ -1,17 +1,21 @@
--- Steps written to a buffer are read back as they were. Assumes nothing.
-use mathlib.Core.Path.{_≡_, refl, sym, ap, ap₂, _∙_}
+-- Steps written to a buffer are read back as they were, and a buffer of bytes is what is read from it, written. Assumes nothing.
+use mathlib.Core.Path.{_≡_, refl, sym, ap, ap₂, _∙_, subst}
+use mathlib.Core.Logic.{by-cases}
 use mathlib.Core.List.{List, [], _∷_, _++_, append-assoc, List·Memᴰ, List·Memᴰ·head, List·Memᴰ·tail}
-use Prim.Native.Nat.{ℕ, zero, suc, _+_, _*_, _^_, _≤_, _<_}
-use native.Mathlib.Nat.{div-add-mod', mod-eq-of-lt, mul-suc, le-of-suc-le-suc, le-refl, le-of-lt}
+use Prim.Native.Nat.{ℕ, zero, suc, _+_, _*_, _^_, _/_, _%_, _≤_, _<_}
+use native.Mathlib.Nat.{div-add-mod', mod-eq-of-lt, mul-suc, le-of-suc-le-suc, le-refl, le-of-lt, le-trans}
+use native.Mathlib.Decide.{decLt}
 use native.Mathlib.Omega.{arith}
-use lib.ListN.{length, getD, take, drop}
-use lib.Seq.{take-at, drop-append-add, take-suc, take-length, drop-cons}
-use Rattle.bitset.specs.Words.{setOf, bytesOf}
-use Rattle.bitset.proofs.Laws.Bytes.{length-bytesOf, setOf-bytesOf}
+use lib.ListN.{length, getD, take, drop, length-drop, take-append-drop, List·getD-eq-default}
+use lib.Pow.{pow-pos}
+use lib.Seq.{take-at, drop-append-add, take-suc, take-length, drop-cons, drop-drop, take-add, getD-take, getD-drop, length-take-le}
+use Rattle.bitset.specs.Words.{setOf, byteOf, bytesOf}
+use Rattle.bitset.proofs.Laws.Bytes.{length-bytesOf, setOf-bytesOf, packed-lt}
+use Rattle.bitset.proofs.Laws.Words.{Below, packed-injective}
 use Rattle.deduction.specs.Step.{Step, step}
 use Rattle.dag.specs.Sheet.{numberAt}
-use Rattle.derive.specs.Bytes.{stepBytes, stepsBytes}
-use Rattle.derive.proofs.Laws.Buffer.{step-length}
+use Rattle.derive.specs.Bytes.{two, stepBytes, stepsBytes}
+use Rattle.derive.proofs.Laws.Buffer.{step-length, steps-more}
 use Rattle.verdict.specs.Demands.{readStep, stepsIn}
 
 -- a set that its 32 bytes hold
@@ -72,3 +76,91 @@ module _ (front : List ℕ) (ss : List Step) (rest : List ℕ) (thirty-two : len
   pub read-back : stepsIn (front ++ (stepsBytes ss ++ rest)) (length ss) ≡ ss
   unfolding out
   read-back = read-front (length ss) (le-refl (length ss)) ∙ take-length ss
+
+-- parts of bytes are bytes
+below-drop : (n : ℕ) (l : List ℕ) → Below 8 l → Below 8 (drop n l)
+below-drop n l h i = subst (λ (x : ℕ). x < 2 ^ 8) (sym (getD-drop n l i 0)) (h (n + i))
+
+below-take : (n : ℕ) (l : List ℕ) → n ≤ length l → Below 8 l → Below 8 (take n l)
+below-take n l r h i =
+    by-cases (decLt i n) (λ q. subst (λ (x : ℕ). x < 2 ^ 8) (sym (getD-take n l i 0 q)) (h i))
+    (λ q. subst (λ (x : ℕ). x < 2 ^ 8) (sym (List·getD-eq-default (take n l) 0 (omega (arith, length-take-le n l r)))) (pow-pos 8))
+
+below-snoc : (xs : List ℕ) (x : ℕ) → Below 8 xs → x < 2 ^ 8 → Below 8 (xs ++ (x ∷ []))
+below-snoc [] x h l zero = l
+below-snoc [] x h l (suc i) = pow-pos 8
+below-snoc (y ∷ ys) x h l zero = h zero
+below-snoc (y ∷ ys) x h l (suc i) = below-snoc ys x (λ j. h (suc j)) l i
+
+below-bytes : (n s : ℕ) → Below 8 (bytesOf n s)
+unfolding bytesOf byteOf
+below-bytes zero s = λ i. pow-pos 8
+below-bytes (suc n) s = below-snoc (bytesOf n s) (byteOf s n) (below-bytes n s) (small (s / 2 ^ (n * 8)))
+  where
+    small : (x : ℕ) → x % 256 < 256
+    small x = omega arith
+
+-- the bytes of the set that bytes hold
+pub bytes-back : (l : List ℕ) (n : ℕ) → length l ≡ n → Below 8 l → bytesOf n (setOf l) ≡ l
+bytes-back l n p h =
+    packed-injective 8 (bytesOf n (setOf l)) l (length-bytesOf n (setOf l) ∙ sym p) (below-bytes n (setOf l)) h
+    (setOf-bytesOf n (setOf l) ∙ mod-eq-of-lt (subst (λ (k : ℕ). setOf l < 2 ^ (k * 8)) p (packed-lt 8 l h)))
+
+-- the two bytes of a number read from two
+two-back : (l : List ℕ) (i : ℕ) → Below 8 l → two (numberAt l i) ≡ getD l i 0 ∷ getD l (i + 1) 0 ∷ []
+unfolding numberAt
+two-back l i h = λ j. high (getD l i 0) (getD l (i + 1) 0) (h (i + 1)) j ∷ low (getD l i 0) (getD l (i + 1) 0) (h (i + 1)) j ∷ []
+  where
+    high : (a b : ℕ) → b < 256 → (a * 256 + b) / 256 ≡ a
+    high a b h = omega arith
+
+    low : (a b : ℕ) → b < 256 → (a * 256 + b) % 256 ≡ b
+    low a b h = omega arith
+
+eight : (l : List ℕ) → 8 ≤ length l
+    → l ≡ getD l 0 0 ∷ getD l 1 0 ∷ getD l 2 0 ∷ getD l 3 0 ∷ getD l 4 0 ∷ getD l 5 0 ∷ getD l 6 0 ∷ getD l 7 0 ∷ drop 8 l
+eight l r =
+    at 0 (omega arith)
+    ∙ ap (λ (t : List ℕ). getD l 0 0 ∷ t)
+    (at 1 (omega arith)
+    ∙ ap (λ (t : List ℕ). getD l 1 0 ∷ t)
+    (at 2 (omega arith)
+    ∙ ap (λ (t : List ℕ). getD l 2 0 ∷ t)
+    (at 3 (omega arith)
+    ∙ ap (λ (t : List ℕ). getD l 3 0 ∷ t)
+    (at 4 (omega arith)
+    ∙ ap (λ (t : List ℕ). getD l 4 0 ∷ t)
+    (at 5 (omega arith) ∙ ap (λ (t : List ℕ). getD l 5 0 ∷ t) (at 6 (omega arith) ∙ ap (λ (t : List ℕ). getD l 6 0 ∷ t) (at 7 (omega arith))))))))
+  where
+    at : (j : ℕ) → j < length l → drop j l ≡ getD l j 0 ∷ drop (suc j) l
+    at j h = drop-cons l j 0 h
+
+-- the 40 bytes of a step read from 40
+step-back : (l : List ℕ) → 40 ≤ length l → Below 8 l → stepBytes (readStep l) ≡ take 40 l
+unfolding readStep stepBytes
+step-back l r h =
+    let part = take 32 (drop 8 l) in
+    let long : 32 ≤ length (drop 8 l) = omega (arith, length-drop 8 l) in
+    let set : bytesOf 32 (setOf part) ≡ part = bytes-back part 32 (length-take-le 32 (drop 8 l) long) (below-take 32 (drop 8 l) long (below-drop 8 l h)) in
+    (λ i. two-back l 0 h i ++ (two-back l 2 h i ++ (two-back l 4 h i ++ (two-back l 6 h i ++ set i))))
+    ∙ sym (ap (take 40) (eight l (le-trans (omega arith) r)))
+
+-- all steps
+pub steps-back : (out : List ℕ) (k : ℕ) → 32 + 40 * k ≤ length out → Below 8 out → stepsBytes (stepsIn out k) ≡ take (40 * k) (drop 32 out)
+unfolding stepsIn stepsBytes
+steps-back out zero r h = refl
+steps-back out (suc k) r h =
+    steps-more (stepsIn out k) (readStep (drop (32 + 40 * k) out))
+    ∙ ap₂ _++_ (steps-back out k (omega (arith, mul-suc 40 k)) h)
+    (step-back (drop (32 + 40 * k) out) (omega (arith, mul-suc 40 k, length-drop (32 + 40 * k) out)) (below-drop (32 + 40 * k) out h) ∙ ap (take 40) (sym (drop-drop (40 * k) 32 out)))
+    ∙ sym (take-add (40 * k) 40 (drop 32 out))
+    ∙ ap (λ (j : ℕ). take j (drop 32 out)) (sym (mul-suc 40 k))
+
+-- a buffer of bytes is its set, its steps and what follows
+pub buffer-back : (out : List ℕ) (k : ℕ) → 32 + 40 * k ≤ length out → Below 8 out
+    → out ≡ bytesOf 32 (setOf (take 32 out)) ++ (stepsBytes (stepsIn out k) ++ drop (32 + 40 * k) out)
+buffer-back out k r h =
+    let front : 32 ≤ length out = le-trans (omega arith) r in
+    sym (take-append-drop 32 out)
+    ∙ ap₂ _++_ (sym (bytes-back (take 32 out) 32 (length-take-le 32 out front) (below-take 32 out front h)))
+    (sym (take-append-drop (40 * k) (drop 32 out)) ∙ ap₂ _++_ (sym (steps-back out k r h)) (drop-drop (40 * k) 32 out))

@@ -6,8 +6,8 @@ use Prim.Native.Nat.{_≤_}
 use borrow.Author.Needs.{needs}
 use denote.Ref.{now}
 use Rattle.derive.specs.declared.run.Verdict.the-variants.{Derivable, Underivable, Exhausted}
-use Rattle.verdict.specs.Answer.{refusalOf}
-use Rattle.verdict.proofs.Laws.Answered.{ok-sheet, ok-cut, ok-budget, ok-space, refused-answer, refused-buffer, answered, answered-few, answered-buffer, answered-meets}
+use Rattle.verdict.specs.Refused.{refusalOf}
+use Rattle.verdict.proofs.Laws.Answered.{ok-sheet, ok-cut, ok-budget, ok-space, refused-answer, refused-buffer, refused-demands, answered, answered-few, answered-buffer, answered-demands}
 use Rattle.dag.proofs.Laws.Good.{good}
 use Rattle.dag.specs.Sheet.{traceLength}
 use Rattle.verdict.proofs.verdict.Statement.{statement}
@@ -42,7 +42,7 @@ code-requires c κs = search needs
 returns : tie.Need-returns
 returns c = let s = c .before .before .before .before .before .args in
     let some = unfit c in
-    (c .before .before .refused .ensures ∙ refused-answer (now (s .sheet)) (s .cut) (s .budget) (length (now (s .out))) some, (omega arith, (refused-buffer (now (s .sheet)) (s .cut) (s .budget) (now (s .out)) some, λ p. absurd (some p))))
+    (c .before .before .refused .ensures ∙ refused-answer (now (s .sheet)) (s .cut) (s .budget) (length (now (s .out))) some, (omega arith, (refused-buffer (now (s .sheet)) (s .cut) (s .budget) (now (s .out)) some, refused-demands (now (s .sheet)) (s .cut) (s .budget) (now (s .out)) _ (c .before .before .refused .ensures) some)))
 
 cast-decide : tie.Need-cast-decide
 cast-decide c = omega (arith, ok-cut (now (c .before .before .before .before .before .args .sheet)) (c .before .before .before .before .before .args .cut) (c .before .before .before .before .before .args .budget) (length (now (c .before .before .before .before .before .args .out))) (fine c), hear-few c)
@@ -74,7 +74,7 @@ returns-2 c = let s = c .before .before .before .before .before .before .before 
       answered (now (s .sheet)) (s .cut) (s .budget) (now (s .out)) (d .last .1 .1 .1 .0) (d .result) (d .ensures) ok Derivable (told c),
       (
         answered-few (now (s .sheet)) (s .cut) (s .budget) (now (s .out)) (d .last .1 .1 .1 .0) (d .result) (d .ensures) ok,
-        (answered-buffer (now (s .sheet)) (s .cut) (s .budget) (now (s .out)) (d .last .1 .1 .1 .0) (d .result) (d .ensures) ok Derivable (told c), (λ p. answered-meets (now (s .sheet)) (s .cut) (s .budget) (now (s .out)) (d .last .1 .1 .1 .0) (d .result) (d .ensures) ok Derivable (told c))),
+        (answered-buffer (now (s .sheet)) (s .cut) (s .budget) (now (s .out)) (d .last .1 .1 .1 .0) (d .result) (d .ensures) ok Derivable (told c), answered-demands (now (s .sheet)) (s .cut) (s .budget) (now (s .out)) (d .last .1 .1 .1 .0) (d .result) (d .ensures) ok Derivable (told c)),
       ),
     )
 
@@ -88,7 +88,7 @@ returns-3 c = let s = c .before .before .before .before .before .before .before 
       answered (now (s .sheet)) (s .cut) (s .budget) (now (s .out)) (d .last .1 .1 .1 .0) (d .result) (d .ensures) ok Underivable (told2 c),
       (
         answered-few (now (s .sheet)) (s .cut) (s .budget) (now (s .out)) (d .last .1 .1 .1 .0) (d .result) (d .ensures) ok,
-        (answered-buffer (now (s .sheet)) (s .cut) (s .budget) (now (s .out)) (d .last .1 .1 .1 .0) (d .result) (d .ensures) ok Underivable (told2 c), (λ p. answered-meets (now (s .sheet)) (s .cut) (s .budget) (now (s .out)) (d .last .1 .1 .1 .0) (d .result) (d .ensures) ok Underivable (told2 c))),
+        (answered-buffer (now (s .sheet)) (s .cut) (s .budget) (now (s .out)) (d .last .1 .1 .1 .0) (d .result) (d .ensures) ok Underivable (told2 c), answered-demands (now (s .sheet)) (s .cut) (s .budget) (now (s .out)) (d .last .1 .1 .1 .0) (d .result) (d .ensures) ok Underivable (told2 c)),
       ),
     )
 
@@ -102,7 +102,7 @@ returns-4 c = let s = c .before .before .before .before .before .before .before 
       answered (now (s .sheet)) (s .cut) (s .budget) (now (s .out)) (d .last .1 .1 .1 .0) (d .result) (d .ensures) ok Exhausted (told3 c),
       (
         answered-few (now (s .sheet)) (s .cut) (s .budget) (now (s .out)) (d .last .1 .1 .1 .0) (d .result) (d .ensures) ok,
-        (answered-buffer (now (s .sheet)) (s .cut) (s .budget) (now (s .out)) (d .last .1 .1 .1 .0) (d .result) (d .ensures) ok Exhausted (told3 c), (λ p. answered-meets (now (s .sheet)) (s .cut) (s .budget) (now (s .out)) (d .last .1 .1 .1 .0) (d .result) (d .ensures) ok Exhausted (told3 c))),
+        (answered-buffer (now (s .sheet)) (s .cut) (s .budget) (now (s .out)) (d .last .1 .1 .1 .0) (d .result) (d .ensures) ok Exhausted (told3 c), answered-demands (now (s .sheet)) (s .cut) (s .budget) (now (s .out)) (d .last .1 .1 .1 .0) (d .result) (d .ensures) ok Exhausted (told3 c)),
       ),
     )
 

@@ -1,0 +1,89 @@
+-- What a caller may conclude from the number that comes back, for every good sheet. Each statement is drawn from a field of `Meets` alone.
+-- Shown: `passes-derivable`; `reached-derivable`; `out-underivable`; `out-exact`, `reached-exact`, with a budget of at least the number of entries;
+-- `stopped-used-up`, `rungs-few`, `rungs-fields`. Assumes nothing.
+use mathlib.Core.Path.{_≡_, refl, sym, ap, _∙_}
+use mathlib.Core.Logic.{_↔_}
+use mathlib.Core.List.{List, List·Memᴰ}
+use Prim.Native.Nat.{ℕ, _+_, _≤_, _<_}
+use native.Mathlib.Omega.{arith}
+use Rattle.deduction.specs.Derivation.{Derivable}
+use Rattle.deduction.specs.Entry.{termAt}
+use Rattle.deduction.specs.Step.{Step, Follows}
+use Rattle.deduction.specs.Course.{Verdict, derivable, underivable, exhausted}
+use Rattle.deduction.proofs.Steps.{replay-derivable}
+use Rattle.deduction.proofs.Steps.Course.{course-stopped}
+use Rattle.deduction.proofs.Steps.Fields.{Fields, replays-fields}
+use Rattle.dag.specs.Sheet.{countOf}
+use Rattle.dag.specs.Record.{entryAt}
+use Rattle.dag.specs.Refusal.{refusal}
+use Rattle.dag.proofs.Laws.Good.{good}
+use Rattle.verdict.specs.Start.{startTerms}
+use Rattle.verdict.specs.Demands.{verdictCode, goalTerm, stepsIn, gainedHeads, Passes, Meets}
+use Rattle.verdict.proofs.Unique.{steps-count}
+
+-- what passes the replay is derivable
+pub passes-derivable : (s : List ℕ) (cut k : ℕ) (out : List ℕ) → Passes s cut k out → Derivable (startTerms s cut) (goalTerm s)
+passes-derivable s cut k out (end, r, h) = replay-derivable (termAt (entryAt s)) (countOf s) r (goalTerm s) h
+
+module _ {s : List ℕ} {cut budget : ℕ} {old out : List ℕ} {answer : ℕ} (ok : refusal s ≡ 0) (m : Meets s cut budget old out answer) where
+  -- the number names the verdict
+  at-most : m .count ≤ 256
+  at-most = omega (arith, m .few, good s ok .few)
+
+  named : (v : Verdict) → m .verdict ≡ v → answer ≡ verdictCode v + m .count
+  named v p = m .coded ∙ ap (λ (w : Verdict). verdictCode w + m .count) p
+
+  is-reached : answer < 2000 → m .verdict ≡ derivable
+  is-reached h = go (m .verdict) refl
+    where
+      go : (v : Verdict) → m .verdict ≡ v → m .verdict ≡ derivable
+      go derivable p = p
+      go underivable p = absurd (omega (arith, named underivable p))
+      go exhausted p = absurd (omega (arith, named exhausted p))
+
+  is-out : 2000 ≤ answer → answer < 3000 → m .verdict ≡ underivable
+  is-out l h = go (m .verdict) refl
+    where
+      go : (v : Verdict) → m .verdict ≡ v → m .verdict ≡ underivable
+      go derivable p = absurd (omega (arith, named derivable p, at-most))
+      go underivable p = p
+      go exhausted p = absurd (omega (arith, named exhausted p))
+
+  is-stopped : 3000 ≤ answer → m .verdict ≡ exhausted
+  is-stopped l = go (m .verdict) refl
+    where
+      go : (v : Verdict) → m .verdict ≡ v → m .verdict ≡ exhausted
+      go derivable p = absurd (omega (arith, named derivable p, at-most))
+      go underivable p = absurd (omega (arith, named underivable p, at-most))
+      go exhausted p = p
+
+  -- for every budget
+  pub reached-derivable : answer < 2000 → Derivable (startTerms s cut) (goalTerm s)
+  reached-derivable h = passes-derivable s cut (m .count) out (m .passes (is-reached h))
+
+  pub out-underivable : 2000 ≤ answer → answer < 3000 → ¬ Derivable (startTerms s cut) (goalTerm s)
+  out-underivable l h = m .out-of-reach (is-out l h)
+
+  pub stopped-used-up : 3000 ≤ answer → (answer ≡ 3000 + budget) × ((r : Step) × Follows (termAt (entryAt s)) (countOf s) (gainedHeads s cut (m .count) out) r)
+  stopped-used-up l =
+      let (q, u, f) = course-stopped (m .course) (is-stopped l) in
+      (named exhausted (is-stopped l) ∙ ap (λ (k : ℕ). 3000 + k) (sym (steps-count out (m .count)) ∙ q), f)
+
+  -- "the rung count returned is at most the number of entries"
+  pub rungs-few : answer < 2000 → answer ≤ 1000 + countOf s
+  rungs-few h = omega (arith, named derivable (is-reached h), m .few)
+
+  -- each rung's fields are entries or hold their fixed values
+  pub rungs-fields : answer < 2000 → (r : Step) → List·Memᴰ r (stepsIn out (m .count)) → Fields (countOf s) r
+  rungs-fields h = let (end, r, g) = m .passes (is-reached h) in replays-fields (termAt (entryAt s)) (countOf s) r
+
+  -- with a budget of at least the number of entries the number decides
+  module _ (enough : countOf s ≤ budget) where
+    pub out-exact : ((2000 ≤ answer) × (answer < 3000)) ↔ (¬ Derivable (startTerms s cut) (goalTerm s))
+    out-exact = (
+      λ (l, h). m .exact enough .0 (is-out l h),
+      λ n. let q = named underivable (m .exact enough .1 n) in (omega arith, omega (arith, at-most)),
+    )
+
+    pub reached-exact : (answer < 2000) ↔ Derivable (startTerms s cut) (goalTerm s)
+    reached-exact = (reached-derivable, λ d. let q = named derivable (m .otherwise enough (λ p. m .exact enough .0 p d)) in omega (arith, at-most))

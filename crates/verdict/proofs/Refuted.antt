@@ -1,0 +1,154 @@
+-- Wrong answers and wrong ladders on small sheets, proved not to meet the demands or not to pass, whatever the buffers hold. Each would pass a weaker definition.
+-- Shown: on sheet A a rung too many, a rung missing, out of reach for a derivable goal, reached beyond the budget, a copied rung, a head too many or
+-- too few in the gained set; a wrong source and a missed goal in the replay; out of reach before the last rung. By computation. Assumes nothing.
+use mathlib.Core.Path.{_≡_, refl, sym, ap, ap₂, _∙_, subst}
+use mathlib.Core.Bool.{Bool, true, false, true≢false}
+use mathlib.Core.Logic.{_⊎_, inl, inr, _↔_}
+use mathlib.Core.List.{List, [], _∷_, _++_, map, List·Memᴰ, List·Memᴰ·head, List·Memᴰ·not-nil, List·Memᴰ·cases-cons}
+use Prim.Native.Nat.{ℕ, zero, suc, _+_, _≤_, _<_}
+use native.Mathlib.Omega.{arith}
+use lib.ListN.{length, take, getD}
+use Rattle.bitset.specs.Set.{member, insert, highest, leading}
+use Rattle.bitset.specs.Words.{setOf}
+use Rattle.deduction.specs.Term.{Term, enc, _≈_}
+use Rattle.deduction.specs.Derivation.{Holds}
+use Rattle.deduction.specs.Entry.{parts, terms, termAt, build}
+use Rattle.deduction.specs.Standard.{shape, alike, least, xorAll, firstAlike, standardSet, buildSet, sets, setAt, repAt}
+use Rattle.deduction.specs.Elimination.{take-off, reduceFrom, reduce, addRow, learnAs, learnAll, nothing}
+use Rattle.deduction.specs.Step.{Step, step, unused}
+use Rattle.deduction.specs.Course.{Verdict, derivable, underivable, exhausted}
+use Rattle.deduction.specs.Replay.{Replays, next}
+use Rattle.deduction.specs.Run.{knowledge, offer, opened, built, offers, allOffers, leastOf, isSumOf, nextNumber, secondPart, expand, stepAt, after, reached, nextStep, goesOn, ended, run}
+use Rattle.deduction.proofs.Standard.{rep-equal}
+use Rattle.deduction.proofs.Distinct.{enc-parts}
+use Rattle.deduction.proofs.Steps.Replay.{endState, end-exact, replays-end}
+use Rattle.deduction.proofs.Steps.Fields.{right-decrypt}
+use Rattle.dag.specs.Sheet.{numberAt, countOf, traceLength, traceOf, beginAt, listed}
+use Rattle.dag.specs.Record.{entryAt, fits, decodeAs}
+use Rattle.dag.specs.Refusal.{when, orElse, first, equal, anyFrom, noSheet, badCount, shortList, badPair, badPairs, badRecord, badRecords, notListed, refusal}
+use Rattle.dag.proofs.Laws.Good.{good}
+use Rattle.verdict.specs.Start.{startHeads, startTerms}
+use Rattle.verdict.specs.Demands.{verdictCode, stepsIn, Passes, Meets}
+use Rattle.verdict.specs.Answer.{outcomeOf}
+use Rattle.verdict.specs.Card.{head, sheetA, sumStep, openStep}
+use Rattle.verdict.proofs.Unique.{as-run, answer-run, known-run}
+
+-- An atom and zero, nothing heard, the atom as goal: it is out of reach after one rung, the sum of nothing
+abbrev pub sheetZ : List ℕ
+sheetZ = head (0 ∷ 2 ∷ 0 ∷ 0 ∷ 0 ∷ 0 ∷ 0 ∷ 18 ∷ 0 ∷ 3 ∷ 0 ∷ 21 ∷ 0 ∷ 1 ∷ 1 ∷ 3 ∷ 232 ∷ 0 ∷ [])
+
+-- the sheet is good, the cut is within its log, these heads are gained at the start, and the run makes these rungs and ends so
+abbrev Runs : List ℕ → ℕ → ℕ → List ℕ → List Step → Verdict → Type 0
+Runs s cut budget es ss v =
+    (refusal s ≡ 0) × (cut ≤ traceLength s) × (startHeads s cut ≡ es) × (outcomeOf s cut budget .steps ≡ ss) × (outcomeOf s cut budget .verdict ≡ v)
+
+runs : Runs sheetA 3 256 (2 ∷ 4 ∷ 1 ∷ []) (sumStep ∷ openStep ∷ []) derivable × Runs sheetA 3 0 (2 ∷ 4 ∷ 1 ∷ []) [] exhausted
+    × Runs sheetA 2 256 (2 ∷ 4 ∷ []) [] underivable × Runs sheetZ 0 256 [] (step 1 6 unused unused 0 ∷ []) underivable
+unfolding outcomeOf refusal noSheet badCount shortList badPair badPairs badRecord badRecords notListed when orElse first equal anyFrom fits decodeAs numberAt beginAt listed parts shape alike least xorAll firstAlike standardSet buildSet sets setAt repAt take-off reduceFrom reduce addRow learnAs learnAll nothing knowledge offer opened built offers allOffers leastOf isSumOf nextNumber secondPart expand stepAt after reached nextStep goesOn ended run member insert highest leading
+runs = (
+  (refl, omega arith, refl, refl, refl),
+  (refl, omega arith, refl, refl, refl),
+  (refl, omega arith, refl, refl, refl),
+  (refl, omega arith, refl, refl, refl),
+)
+
+-- only this answer, these rungs and this gained set meet the demands there
+module _ {s : List ℕ} {cut budget : ℕ} {es : List ℕ} {ss : List Step} {v : Verdict} (r : Runs s cut budget es ss v) {old out : List ℕ} {answer : ℕ} (m : Meets s cut budget old out answer) where
+  only-answer : answer ≡ verdictCode v + length ss
+  only-answer = answer-run s cut budget (r .0) (r .1) m ∙ ap₂ (λ (w : Verdict) (l : List Step). verdictCode w + length l) (r .4) (r .3)
+
+  only-steps : stepsIn out (m .count) ≡ ss
+  only-steps = as-run s cut budget (r .0) (r .1) m .0 ∙ r .3
+
+  only-known : (e : ℕ) → (member (setOf (take 32 out)) e ≡ true) ↔ List·Memᴰ e (es ++ map (λ (x : Step). x .head) ss)
+  only-known =
+      subst (λ (l : List ℕ). (e : ℕ) → (member (setOf (take 32 out)) e ≡ true) ↔ List·Memᴰ e l)
+      (ap₂ (λ (l : List ℕ) (t : List Step). l ++ map (λ (x : Step). x .head) t) (r .2) (r .3))
+      (known-run s cut budget (r .0) (r .1) m)
+
+-- sheet A at cut 3, whatever the buffers hold
+module _ (old out : List ℕ) where
+  pub rung-too-many : ¬ Meets sheetA 3 256 old out 1003
+  rung-too-many m = omega (arith, only-answer (runs .0) m)
+
+  pub rung-missing : ¬ Meets sheetA 3 256 old out 1001
+  rung-missing m = omega (arith, only-answer (runs .0) m)
+
+  pub out-for-derivable : (k : ℕ) → ¬ Meets sheetA 3 256 old out (2000 + k)
+  out-for-derivable k m = omega (arith, only-answer (runs .0) m)
+
+  pub beyond-the-budget : ¬ Meets sheetA 3 0 old out 1002
+  beyond-the-budget m = omega (arith, only-answer (runs .1) m)
+
+  pub rung-copied : {answer : ℕ} (m : Meets sheetA 3 256 old out answer) → ¬ (stepsIn out (m .count) ≡ sumStep ∷ sumStep ∷ [])
+  rung-copied m p = omega (arith, ap (λ (l : List Step). getD l 1 sumStep .head) (sym (only-steps (runs .0) m) ∙ p))
+
+  -- at cut 2 the heads 2 and 4 are gained and no other
+  pub head-too-many : {answer : ℕ} → Meets sheetA 2 256 old out answer → ¬ (member (setOf (take 32 out)) 0 ≡ true)
+  head-too-many m p =
+      elim (List·Memᴰ·cases-cons (only-known (runs .2) m 0 .0 p)) [
+        | inl q ↦ omega arith
+        | inr q ↦ elim (List·Memᴰ·cases-cons q) [ inl z ↦ omega arith | inr z ↦ List·Memᴰ·not-nil z ]
+      ]
+
+  pub head-too-few : {answer : ℕ} → Meets sheetA 2 256 old out answer → ¬ (member (setOf (take 32 out)) 2 ≡ false)
+  head-too-few m p = true≢false (sym (only-known (runs .2) m 2 .1 (List·Memᴰ·head refl)) ∙ p)
+
+  -- out of reach before the last rung, with what was heard for the gained set
+  pub out-too-early : ¬ Meets sheetZ 0 256 old out 2000
+  out-too-early m = omega (arith, only-answer (runs .3) m)
+
+-- the replay on sheet A: its heard entries, its seal, and every entry its own head
+replay-A : (traceOf sheetA 3 ≡ 2 ∷ 4 ∷ 1 ∷ []) × (termAt (entryAt sheetA) 4 ≡ enc (termAt (entryAt sheetA) 3) (termAt (entryAt sheetA) 0))
+unfolding fits decodeAs numberAt listed termAt terms build
+replay-A = (refl, refl)
+
+own-head : (i : ℕ) → i < 5 → repAt (entryAt sheetA) i ≡ i
+unfolding fits decodeAs numberAt shape alike least xorAll firstAlike standardSet buildSet sets setAt repAt listed
+own-head zero l = refl
+own-head (suc zero) l = refl
+own-head (suc (suc zero)) l = refl
+own-head (suc (suc (suc zero))) l = refl
+own-head (suc (suc (suc (suc zero)))) l = refl
+own-head (suc (suc (suc (suc (suc i))))) l = absurd (omega arith)
+
+-- no two of its entries are the same term
+apart : (i j : ℕ) → i < 5 → j < 5 → termAt (entryAt sheetA) i ≈ termAt (entryAt sheetA) j → i ≡ j
+unfolding numberAt
+apart i j li lj q = sym (own-head i li) ∙ rep-equal (entryAt sheetA) 5 (good sheetA (runs .0 .0) .downward) i j li lj .1 q ∙ own-head j lj
+
+held-A : (i : ℕ) → List·Memᴰ i (2 ∷ 4 ∷ 1 ∷ 0 ∷ []) → (i < 5) × (¬ (i ≡ 3))
+held-A i m = elim (List·Memᴰ·cases-cons m) [ inl p ↦ (omega arith, λ q. omega arith) | inr m ↦ four m ]
+  where
+    zero-only : List·Memᴰ i (0 ∷ []) → (i < 5) × (¬ (i ≡ 3))
+    zero-only m = elim (List·Memᴰ·cases-cons m) [ inl p ↦ (omega arith, λ q. omega arith) | inr m ↦ absurd (List·Memᴰ·not-nil m) ]
+
+    one : List·Memᴰ i (1 ∷ 0 ∷ []) → (i < 5) × (¬ (i ≡ 3))
+    one m = elim (List·Memᴰ·cases-cons m) [ inl p ↦ (omega arith, λ q. omega arith) | inr m ↦ zero-only m ]
+
+    four : List·Memᴰ i (4 ∷ 1 ∷ 0 ∷ []) → (i < 5) × (¬ (i ≡ 3))
+    four m = elim (List·Memᴰ·cases-cons m) [ inl p ↦ (omega arith, λ q. omega arith) | inr m ↦ one m ]
+
+-- the first rung alone replays, and misses the goal
+pub goal-missed : (out : List ℕ) → stepsIn out 1 ≡ sumStep ∷ [] → ¬ Passes sheetA 3 1 out
+unfolding numberAt
+goal-missed out p (end, r, h) = go (end-exact (termAt (entryAt sheetA)) (2 ∷ 4 ∷ 1 ∷ []) (sumStep ∷ []) (termAt (entryAt sheetA) 3) .0 held)
+  where
+    held : Holds (endState (termAt (entryAt sheetA)) (map (termAt (entryAt sheetA)) (2 ∷ 4 ∷ 1 ∷ [])) (sumStep ∷ [])) (termAt (entryAt sheetA) 3)
+    held =
+        subst (λ (l : List ℕ). Holds (endState (termAt (entryAt sheetA)) (map (termAt (entryAt sheetA)) l) (sumStep ∷ [])) (termAt (entryAt sheetA) 3)) (replay-A .0)
+        (subst (λ (ss : List Step). Holds (endState (termAt (entryAt sheetA)) (startTerms sheetA 3) ss) (termAt (entryAt sheetA) 3)) p
+        (subst (λ (g : List Term). Holds g (termAt (entryAt sheetA) 3)) (replays-end (termAt (entryAt sheetA)) 5 r) h))
+
+    go : (i : ℕ) × List·Memᴰ i (2 ∷ 4 ∷ 1 ∷ 0 ∷ []) × (termAt (entryAt sheetA) i ≈ termAt (entryAt sheetA) 3) → ⊥
+    go (i, m, q) = let (low, other) = held-A i m in other (apart i 3 low (omega arith) q)
+
+-- a seal opened with the wrong source doesn't replay
+pub source-wrong : (out : List ℕ) → stepsIn out 2 ≡ sumStep ∷ step 3 3 4 1 0 ∷ [] → ¬ Passes sheetA 3 2 out
+unfolding numberAt
+source-wrong out p (end, r, h) = go (subst (λ (ss : List Step). Replays (termAt (entryAt sheetA)) 5 (startTerms sheetA 3) ss end) p r)
+  where
+    go : {g a : List Term} → Replays (termAt (entryAt sheetA)) 5 g (sumStep ∷ step 3 3 4 1 0 ∷ []) a → ⊥
+    go (next x (next y z)) =
+        let q = subst (λ (u : Term). u ≈ enc (termAt (entryAt sheetA) 3) (termAt (entryAt sheetA) 1)) (replay-A .1) (right-decrypt (termAt (entryAt sheetA)) 5 y refl) in
+        omega (arith, apart 0 1 (omega arith) (omega arith) (enc-parts q .1))

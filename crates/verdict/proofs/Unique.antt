@@ -1,0 +1,132 @@
+-- The demands alone determine the call.
+-- Shown: `meets-unique`, two answers and buffers that meet the demands for one sheet, cut and budget have equal numbers, rungs and gained sets;
+-- `meets-equations`, for a buffer of bytes of the old length the demands are the two equations with the run; `demands-equations`, the same for every call, refused
+-- or not. So nobody has to believe the run or the elimination. Assumes nothing.
+use mathlib.Core.Path.{_≡_, refl, sym, ap, ap₂, _∙_, subst}
+use mathlib.Core.Bool.{Bool, true, false, true≢false}
+use mathlib.Core.Logic.{_↔_, by-cases}
+use mathlib.Core.List.{List, [], _∷_, _++_, map, List·Memᴰ}
+use Prim.Native.Nat.{ℕ, zero, suc, _+_, _*_, _^_, _≤_, _<_}
+use native.Mathlib.Decide.{ℕ-discrete}
+use native.Mathlib.Omega.{arith}
+use lib.ListN.{length, take, drop, getD, take-append-drop, length-append}
+use lib.Seq.{take-add, length-take-le}
+use Rattle.bitset.specs.Set.{member}
+use Rattle.bitset.specs.Words.{setOf, bytesOf}
+use Rattle.bitset.proofs.Laws.Member.{same-members}
+use Rattle.bitset.proofs.Laws.Words.{Below, packed-injective}
+use Rattle.deduction.specs.Step.{Step}
+use Rattle.deduction.specs.Run.{Outcome, knowledge}
+use Rattle.deduction.proofs.Steps.{course-unique}
+use Rattle.deduction.proofs.Steps.Course.{course-budget}
+use Rattle.dag.specs.Sheet.{numberAt, countOf, goalOf, traceLength}
+use Rattle.dag.specs.Record.{entryAt}
+use Rattle.dag.specs.Refusal.{refusal}
+use Rattle.dag.proofs.Laws.Good.{good}
+use Rattle.derive.specs.Bytes.{stepsBytes}
+use Rattle.verdict.specs.Start.{startHeads}
+use Rattle.verdict.specs.Refused.{refusalOf}
+use Rattle.verdict.specs.Demands.{verdictCode, readStep, stepsIn, gainedHeads, Meets, Demanded}
+use Rattle.verdict.specs.Answer.{outcomeOf, answerOf, bufferOf}
+use Rattle.verdict.proofs.Laws.Readback.{buffer-back}
+use Rattle.verdict.proofs.Laws.Demands.{start-is-heads, run-is-course}
+use Rattle.verdict.proofs.Laws.Answered.{ok-sheet, ok-cut, ok-space, refused-answer, refused-buffer, accepted-answer, accepted-buffer, accepted-known, accepted-meets}
+
+-- as many steps as are read
+pub steps-count : (out : List ℕ) (k : ℕ) → length (stepsIn out k) ≡ k
+unfolding stepsIn
+steps-count out zero = refl
+steps-count out (suc k) = length-append (stepsIn out k) _ ∙ let q = steps-count out k in omega arith
+
+-- sets with the same members in a list are equal
+sets-equal : {es : List ℕ} (a b : ℕ) → ((e : ℕ) → (member a e ≡ true) ↔ List·Memᴰ e es) → ((e : ℕ) → (member b e ≡ true) ↔ List·Memᴰ e es) → a ≡ b
+sets-equal a b f g = same-members a b (λ e. go (member a e) (member b e) (λ p. g e .1 (f e .0 p)) (λ p. f e .1 (g e .0 p)))
+  where
+    go : (x y : Bool) → (x ≡ true → y ≡ true) → (y ≡ true → x ≡ true) → x ≡ y
+    go true y p q = sym (p refl)
+    go false true p q = q refl
+    go false false p q = refl
+
+module _ (s : List ℕ) (cut budget : ℕ) (ok : refusal s ≡ 0) (within : cut ≤ traceLength s) where
+  module _ {old old′ out out′ : List ℕ} {answer answer′ : ℕ} (m : Meets s cut budget old out answer) (m′ : Meets s cut budget old′ out′ answer′) where
+    one-course : (stepsIn out (m .count) ≡ stepsIn out′ (m′ .count)) × (m .verdict ≡ m′ .verdict)
+    one-course = course-unique (entryAt s) (countOf s) (good s ok .downward) (goalOf s) (start-is-heads s cut budget ok within) (m .course) (m′ .course)
+
+    pub one-count : m .count ≡ m′ .count
+    one-count = sym (steps-count out (m .count)) ∙ ap length (one-course .0) ∙ steps-count out′ (m′ .count)
+
+    pub meets-unique : (answer ≡ answer′) × (stepsIn out (m .count) ≡ stepsIn out′ (m′ .count)) × (setOf (take 32 out) ≡ setOf (take 32 out′))
+    meets-unique = (
+      m .coded ∙ ap₂ (λ v k. verdictCode v + k) (one-course .1) one-count ∙ sym (m′ .coded),
+      one-course .0,
+      sets-equal _ _ (m .known) (subst (λ (ss : List Step). (e : ℕ) → (member (setOf (take 32 out′)) e ≡ true) ↔ List·Memᴰ e (startHeads s cut ++ map (λ (r : Step). r .head) ss)) (sym (one-course .0)) (m′ .known)),
+    )
+
+  -- what meets the demands is what the run makes
+  module _ {old out : List ℕ} {answer : ℕ} (m : Meets s cut budget old out answer) where
+    pub as-run : (stepsIn out (m .count) ≡ outcomeOf s cut budget .steps) × (m .verdict ≡ outcomeOf s cut budget .verdict)
+    as-run =
+        course-unique (entryAt s) (countOf s) (good s ok .downward) (goalOf s) (start-is-heads s cut budget ok within) (m .course)
+        (run-is-course s cut budget ok within)
+
+    count-run : m .count ≡ length (outcomeOf s cut budget .steps)
+    count-run = sym (steps-count out (m .count)) ∙ ap length (as-run .0)
+
+    pub answer-run : answer ≡ verdictCode (outcomeOf s cut budget .verdict) + length (outcomeOf s cut budget .steps)
+    answer-run = m .coded ∙ ap₂ (λ v k. verdictCode v + k) (as-run .1) count-run
+
+    pub known-run : (e : ℕ) → (member (setOf (take 32 out)) e ≡ true) ↔ List·Memᴰ e (startHeads s cut ++ map (λ (r : Step). r .head) (outcomeOf s cut budget .steps))
+    known-run = subst (λ (ss : List Step). (e : ℕ) → (member (setOf (take 32 out)) e ≡ true) ↔ List·Memᴰ e (startHeads s cut ++ map (λ (r : Step). r .head) ss)) (as-run .0) (m .known)
+
+-- a call that isn't refused, with a buffer of bytes: what was written is what is read back
+module _ (s : List ℕ) (cut budget : ℕ) (old : List ℕ) (ok : refusalOf s cut budget (length old) ≡ 0) where
+  sheet-ok : refusal s ≡ 0
+  sheet-ok = ok-sheet s cut budget (length old) ok
+
+  cut-ok : cut ≤ traceLength s
+  cut-ok = ok-cut s cut budget (length old) ok
+
+  abbrev o : Outcome
+  o = outcomeOf s cut budget
+
+  -- the answer and the buffer of the equations
+  own : Meets s cut budget old (bufferOf s cut budget old) (answerOf s cut budget (length old))
+  own = accepted-meets s cut budget old ok
+
+  module _ (out : List ℕ) (bytes : Below 8 out) (size : length out ≡ length old) where
+    written : {answer : ℕ} (m : Meets s cut budget old out answer)
+        → out ≡ bytesOf 32 (setOf (take 32 out)) ++ (stepsBytes (stepsIn out (m .count)) ++ drop (32 + 40 * m .count) old)
+    written m =
+        let b : length (stepsIn out (m .count)) ≤ budget = course-budget (m .course) in
+        let room : 32 + 40 * m .count ≤ length out = omega (arith, steps-count out (m .count), ok-space s cut budget (length old) ok) in
+        buffer-back out (m .count) room bytes ∙ ap (λ (rest : List ℕ). bytesOf 32 (setOf (take 32 out)) ++ (stepsBytes (stepsIn out (m .count)) ++ rest)) (m .kept)
+
+    -- the demands on such a call are the two equations
+    pub meets-equations : (answer : ℕ) → Meets s cut budget old out answer ↔ ((answer ≡ answerOf s cut budget (length old)) × (out ≡ bufferOf s cut budget old))
+    meets-equations answer = (
+      λ m.
+          let ss = as-run s cut budget sheet-ok cut-ok m .0 in
+          let k = count-run s cut budget sheet-ok cut-ok m in
+          let u : setOf (take 32 out) ≡ knowledge (entryAt s) (o .learnt) .known = meets-unique s cut budget sheet-ok cut-ok m own .2 ∙ accepted-known s cut budget old ok in (
+            answer-run s cut budget sheet-ok cut-ok m ∙ sym (accepted-answer s cut budget old ok),
+            written m ∙ (λ i. bytesOf 32 (u i) ++ (stepsBytes (ss i) ++ drop (32 + 40 * k i) old)) ∙ sym (accepted-buffer s cut budget old ok),
+          ),
+      λ (p, q). subst (λ (a : ℕ). Meets s cut budget old out a) (sym p) (subst (λ (b : List ℕ). Meets s cut budget old b (answerOf s cut budget (length old))) (sym q) own),
+    )
+
+-- refused or not: an answer and a buffer of bytes are as demanded exactly when they are those of the equations
+pub demands-equations : (s : List ℕ) (cut budget : ℕ) (old out : List ℕ) (answer : ℕ) → Below 8 out → length out ≡ length old
+    → Demanded s cut budget old out answer ↔ ((answer ≡ answerOf s cut budget (length old)) × (out ≡ bufferOf s cut budget old))
+demands-equations s cut budget old out answer bytes size = by-cases (ℕ-discrete (refusalOf s cut budget (length old)) 0) judged refused
+  where
+    judged : refusalOf s cut budget (length old) ≡ 0 → Demanded s cut budget old out answer ↔ ((answer ≡ answerOf s cut budget (length old)) × (out ≡ bufferOf s cut budget old))
+    judged ok =
+        let (to, from) = meets-equations s cut budget old ok out bytes size answer in
+        (λ d. to (d .judged ok), λ e. record { refused = λ n. absurd (n ok); judged = λ p. from e })
+
+    refused : ¬ (refusalOf s cut budget (length old) ≡ 0) → Demanded s cut budget old out answer ↔ ((answer ≡ answerOf s cut budget (length old)) × (out ≡ bufferOf s cut budget old))
+    refused some =
+        let a = refused-answer s cut budget (length old) some in let b = refused-buffer s cut budget old some in (
+          λ d. (d .refused some .0 ∙ a, d .refused some .1 ∙ b),
+          λ (p, q). record { refused = λ n. (p ∙ sym a, q ∙ sym b); judged = λ ok. absurd (some ok) },
+        )

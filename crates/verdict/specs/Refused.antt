@@ -1,0 +1,11 @@
+-- Which calls are refused, and with which number (document 01, "Grounding table"). Defined: `refusalOf`.
+use Prim.Native.Nat.{ℕ, _+_, _*_}
+use mathlib.Core.List.{List}
+use lib.Dec.{ltb}
+use Rattle.dag.specs.Sheet.{traceLength}
+use Rattle.dag.specs.Refusal.{when, orElse, refusal}
+
+-- rows 1 to 7, then "8 past the log: cut over h", "9 over budget: budget over 256", "10 no space: buffer under 32 + 40b bytes"
+unfoldable pub refusalOf : List ℕ → ℕ → ℕ → ℕ → ℕ
+refusalOf s cut budget space =
+    orElse (refusal s) (orElse (when (ltb (traceLength s) cut) 8) (orElse (when (ltb 256 budget) 9) (when (ltb space (32 + 40 * budget)) 10)))
