@@ -1,12 +1,12 @@
 /* zuwendryk.h: can a stranger who listens to a radio link work out a key?
  *
- * A sheet is a numbered table of up to 256 terms: zero, atoms, pairs, terms sealed under a key term, and sums by exclusive or. It also lists the
- * messages that were heard, in order, and names one entry as the goal. The calls here judge whether the goal follows from the messages
- * heard before a cut, by the listener's rules for pairs, seals and sums. "Out of reach" is proved: no finite row of steps whatever, through
- * terms of any size, gains the goal.
+ * A sheet is a numbered table of up to 256 terms: zero, atoms, pairs, terms sealed under a key term, and sums by exclusive or. It also lists
+ * the messages that were heard, in order, and names one entry as the goal. The calls here judge whether a listener gains the goal from the
+ * messages heard before a cut. "Reached" comes with the steps, called rungs. "Out of reach" is proved: no finite row of steps whatever,
+ * through terms of any size, gains the goal.
  *
- * Link with the archive libzuwendryk.a (tools/install). The calls use no heap, no global state and no other library; they may run in several threads at once,
- * each on its own buffer.
+ * This header is the manual: version, linking, the sheet's bytes, the rules, the answers, the buffer's bytes, stack, what a caller owes and what
+ * is proved, then the two calls. examples/build.c makes a sheet and asks for its verdict; examples/verdict.c reads one from a file.
  */
 #ifndef ZUWENDRYK_H
 #define ZUWENDRYK_H
@@ -18,45 +18,177 @@
 extern "C" {
 #endif
 
-/* The longest good sheet, the most rungs a call makes, and the bytes of the buffer for a budget of b rungs. */
-#define ZUWENDRYK_LONGEST_SHEET 34444
-#define ZUWENDRYK_MOST_RUNGS 256
-#define ZUWENDRYK_BUFFER(b) (32 + 40 * (size_t)(b))
+/* VERSION. The same stands in zuwendryk.pc and in what `sheet --version` prints. */
+#define ZUWENDRYK_VERSION_MAJOR 1
+#define ZUWENDRYK_VERSION_MINOR 0
+#define ZUWENDRYK_VERSION_PATCH 0
+#define ZUWENDRYK_VERSION "1.0.0"
 
-/* Refusals. A refused call hands back one of these numbers alone, and the buffer keeps every byte. */
-#define ZUWENDRYK_NO_SHEET 1     /* under 10 bytes, over 34,444, or the four letters SHT1 differ */
-#define ZUWENDRYK_BAD_COUNT 2    /* n, h or goal outside its range */
-#define ZUWENDRYK_SHORT_LIST 3   /* fewer than 10 + 4n + 2h bytes */
-#define ZUWENDRYK_BAD_PAIR 4     /* a record's place: empty, out of its row, past the sheet, or bytes left over */
-#define ZUWENDRYK_BAD_RECORD 5   /* kind over 4, or a length that its kind lacks */
-#define ZUWENDRYK_FORWARD 6      /* an entry number in a record that is not below the record's own */
-#define ZUWENDRYK_NOT_LISTED 7   /* a heard number of n or more */
+/* LINKING
+ *
+ * `tools/install PREFIX` proves the library and installs this header, the archive libzuwendryk.a, zuwendryk.pc and the man pages:
+ *
+ *     gcc -IPREFIX/include -o planner planner.c PREFIX/lib/libzuwendryk.a
+ *     gcc -o planner planner.c $(PKG_CONFIG_PATH=PREFIX/lib/pkgconfig pkg-config --cflags --libs zuwendryk)
+ *
+ * The archive is built for Linux on x86-64 and links into no other program. It needs two functions of the C library, memcpy and memset, and
+ * nothing else. Its code may stand at any address, so a shared object can be made of it:
+ *
+ *     gcc -shared -o libzuwendryk.so -Wl,--whole-archive PREFIX/lib/libzuwendryk.a -Wl,--no-whole-archive
+ *
+ * From Python, with the file "sheet" and the shared object in the working directory, after the first 3 messages:
+ *
+ *     import ctypes
+ *     library = ctypes.CDLL("./libzuwendryk.so")
+ *     verdict = library.zuwendryk_verdict
+ *     verdict.argtypes = [ctypes.c_char_p, ctypes.c_size_t, ctypes.c_uint32, ctypes.c_uint32, ctypes.c_char_p, ctypes.c_size_t]
+ *     verdict.restype = ctypes.c_uint32
+ *     sheet = open("sheet", "rb").read()
+ *     buffer = ctypes.create_string_buffer(32 + 40 * 256)
+ *     print(verdict(sheet, len(sheet), 3, 256, buffer, len(buffer)))
+ */
+
+/* THE SHEET'S BYTES
+ *
+ * A number has 2 bytes, the high one first: 258 is 01 02. Only a record's kind has 1 byte. Offsets count from the sheet's first byte.
+ *
+ *     offset          bytes   content
+ *     0               4       the letters SHT1 (hexadecimal 53 48 54 31)
+ *     4               2       n, how many entries there are, 1 to 256
+ *     6               2       h, how many messages were heard, 0 to 256
+ *     8               2       the goal: an entry number, 0 to n - 1
+ *     10              4n      for each entry in turn, where its record is: the record's offset, then its length
+ *     10 + 4n         2h      for each heard message in turn: its entry number. An entry may be heard again
+ *     10 + 4n + 2h            the records in the order of the entries, each beginning where the last one ended; the sheet ends with the last
+ *
+ * Entries are numbered from 0. The record of an entry is the byte of its kind and then its numbers:
+ *
+ *     kind        numbers         length    the entry's term
+ *     0 zero      none            1         the sum of nothing
+ *     1 atom      its own         3         a key, a nonce, a name: anything without parts. Its number is any, 0 to 65,535; the same number
+ *                                           is the same atom
+ *     2 pair      left, right     5         the two terms side by side
+ *     3 seal      message, key    5         the message sealed under the key; any entry may be a key
+ *     4 sum       0 to 64 items   1 + 2k    the sum of its k items by exclusive or. An item may stand there again, and then cancels out
+ *
+ * Left, right, message, key and items are entry numbers, and each is lower than the number of the entry whose record it stands in. So a term
+ * comes after its parts, and entry 0 is zero, an atom or a sum of nothing.
+ *
+ * Two entries may be the same term, as the sum of 0 and 1 and the sum of 1 and 0. Then the lower number, the head, stands for both in what a
+ * call hands back. Terms are the same when exclusive or makes them so, also inside pairs and seals: order and grouping of a sum don't
+ * matter, a term summed with itself is zero, and zero adds nothing.
+ *
+ * docs/FORMAT.md goes through a sheet of 55 bytes and its answer, byte by byte. */
+#define ZUWENDRYK_LETTERS "SHT1"
+#define ZUWENDRYK_MOST_ENTRIES 256
+#define ZUWENDRYK_MOST_HEARD 256
+#define ZUWENDRYK_MOST_ITEMS 64       /* of one sum */
+#define ZUWENDRYK_LONGEST_SHEET 34444 /* bytes; 255 sums of 64 items over one atom, and 256 heard messages */
+
+#define ZUWENDRYK_KIND_ZERO 0
+#define ZUWENDRYK_KIND_ATOM 1
+#define ZUWENDRYK_KIND_PAIR 2
+#define ZUWENDRYK_KIND_SEAL 3
+#define ZUWENDRYK_KIND_SUM 4
+
+/* A number as a size, so that the sums below are made in size_t whatever the type of their numbers. */
+#ifdef __cplusplus
+#define ZUWENDRYK_SIZE(x) (static_cast<size_t>(x))
+#else
+#define ZUWENDRYK_SIZE(x) ((size_t)(x))
+#endif
+
+/* Where in a sheet of n entries and h heard messages the places of the records, the heard messages and the records begin. */
+#define ZUWENDRYK_PLACES_AT 10
+#define ZUWENDRYK_HEARD_AT(n) (ZUWENDRYK_PLACES_AT + 4 * ZUWENDRYK_SIZE(n))
+#define ZUWENDRYK_RECORDS_AT(n, h) (ZUWENDRYK_HEARD_AT(n) + 2 * ZUWENDRYK_SIZE(h))
+
+/* RULES. A listener starts with the heard messages before the cut, and gains one term a rung:
+ *
+ *     rule        gains                                  first source    second source    set
+ *     1 left      the left of a pair                     the pair        65,535           zero
+ *     2 right     the right of a pair                    the pair        65,535           zero
+ *     3 open      the message of a seal whose key it has the seal        the key          zero
+ *     4 join      the pair of two terms                  the left        the right        zero
+ *     5 seal      a term sealed under a term             the message     the key          zero
+ *     6 sum       the sum of a set of terms              65,535          65,535           the summed entries; none for zero
+ *
+ * A call makes the rung that gains the lowest head not yet gained; of several, the one of the lowest rule, then of the lowest first source. It
+ * ends when the goal is gained, when nothing follows, or when the budget of rungs is used up. */
+#define ZUWENDRYK_RULE_LEFT 1
+#define ZUWENDRYK_RULE_RIGHT 2
+#define ZUWENDRYK_RULE_OPEN 3
+#define ZUWENDRYK_RULE_JOIN 4
+#define ZUWENDRYK_RULE_SEAL 5
+#define ZUWENDRYK_RULE_SUM 6
+#define ZUWENDRYK_NO_SOURCE 65535
+#define ZUWENDRYK_MOST_RUNGS 256 /* the greatest budget */
+
+/* ANSWERS of zuwendryk_verdict: a refusal's number, or a verdict's number plus the number of rungs made, 0 to 256. So an answer below
+ * ZUWENDRYK_REACHED is a refusal, and of any other answer / 1000 * 1000 is the verdict and answer % 1000 the rungs. */
+
+/* Refusals. They are looked for in the order of their numbers, except that the records are taken entry by entry, 5 before 6 in each. A refused
+ * call hands back the number alone, and the buffer keeps every byte. */
+#define ZUWENDRYK_NO_SHEET 1     /* under 10 bytes, over ZUWENDRYK_LONGEST_SHEET, or the four letters differ */
+#define ZUWENDRYK_BAD_COUNT 2    /* n, h or the goal is outside its range */
+#define ZUWENDRYK_SHORT_LIST 3   /* the sheet ends before its records would begin, at 10 + 4n + 2h */
+#define ZUWENDRYK_BAD_PAIR 4     /* a record's place: length 0, an offset that isn't the last record's end, an end past the sheet; or bytes left over */
+#define ZUWENDRYK_BAD_RECORD 5   /* a kind over 4, or a length that the kind doesn't have */
+#define ZUWENDRYK_FORWARD 6      /* an entry number in a record that isn't lower than the record's own */
+#define ZUWENDRYK_NOT_LISTED 7   /* a heard message, also one past the cut, whose entry number is n or more */
 #define ZUWENDRYK_PAST_THE_LOG 8 /* cut over h */
-#define ZUWENDRYK_OVER_BUDGET 9  /* budget over 256 */
-#define ZUWENDRYK_NO_SPACE 10    /* buffer under 32 + 40 * budget bytes */
+#define ZUWENDRYK_OVER_BUDGET 9  /* budget over ZUWENDRYK_MOST_RUNGS */
+#define ZUWENDRYK_NO_SPACE 10    /* a buffer shorter than ZUWENDRYK_BUFFER(budget) */
 
-/* Verdicts: the answer less the rung count. */
+/* Verdicts. */
 #define ZUWENDRYK_REACHED 1000      /* the goal is gained; the buffer holds the rungs that gain it */
 #define ZUWENDRYK_OUT_OF_REACH 2000 /* it isn't, and no rung follows */
-#define ZUWENDRYK_STOPPED 3000      /* it isn't, the budget is used up, and another rung follows */
+#define ZUWENDRYK_STOPPED 3000      /* it isn't, the budget is used up, and another rung follows; never with a budget of n or more */
 
-/* The verdict on a sheet after the first `cut` heard messages, with at most `budget` rungs.
+/* THE BUFFER'S BYTES after a call that wasn't refused. Numbers have 2 bytes, the high one first.
  *
- * It answers a refusal, 1 to 10, or a verdict's number plus the number of rungs made, 0 to 256. With a budget of at least the sheet's number of
- * entries it never answers stopped.
+ *     offset          bytes   content
+ *     0               32      the gained set: entry e is the bit of value 1 << e % 8 in byte e / 8. Only heads stand in it
+ *     32 + 40i        40      rung i, counted from 0 in the order made:
+ *       + 0           2         the gained entry
+ *       + 2           2         the rule, 1 to 6
+ *       + 4           2         the first source, or 65,535
+ *       + 6           2         the second source, or 65,535
+ *       + 8           32        the set of summed entries, in the gained set's form
+ *     32 + 40 * made          the rest keeps its value, whatever the budget */
+#define ZUWENDRYK_SET 32                /* bytes of a set */
+#define ZUWENDRYK_FRONT 32              /* bytes before the first rung */
+#define ZUWENDRYK_RUNG 40               /* bytes of a rung */
+#define ZUWENDRYK_RUNG_GAINED 0         /* where in a rung its parts begin */
+#define ZUWENDRYK_RUNG_RULE 2
+#define ZUWENDRYK_RUNG_FIRST 4
+#define ZUWENDRYK_RUNG_SECOND 6
+#define ZUWENDRYK_RUNG_SET 8
+#define ZUWENDRYK_BUFFER(b) (ZUWENDRYK_FRONT + ZUWENDRYK_RUNG * ZUWENDRYK_SIZE(b)) /* bytes for a budget of b rungs; where rung b begins */
+
+/* STACK. The most bytes of stack that a call itself touches, below its caller's own: a verdict's, and those of a call that is refused and of
+ * zuwendryk_validate. They include what the dynamic linker takes when it looks up memcpy or memset at the first use. A thread made for a verdict
+ * may have PTHREAD_STACK_MIN + ZUWENDRYK_STACK bytes. The figures are measured by a test on the archive, not proved. */
+#define ZUWENDRYK_STACK 49152
+#define ZUWENDRYK_STACK_REFUSED 40960
+
+/* WHAT A CALLER OWES. No pointer is null, also where its length is 0. Each area has the length given. The buffer overlaps no byte of the sheet. While
+ * a call runs nothing else writes the sheet, or touches the buffer. The stack has the room said above. Nothing can check these at run time.
  *
- * Unless the call is refused, the buffer then holds
- *   bytes 0 to 31      the gained set: entry e is bit e % 8 of byte e / 8, for each entry e that is the lowest-numbered one of its term
- *   40 bytes a rung    from byte 32 on, in the order made: gained entry, rule, first source, second source, each 2 bytes, high byte first;
- *                      then the set of summed entries, 32 bytes in the gained set's form
- * and every later byte keeps its value. Rules: 1 left of a pair, 2 right of a pair, 3 message of a seal (first source) whose key is known (second),
- * 4 pair of two known terms, 5 seal of the first under the second, 6 sum of the set. A source that isn't used is 65,535; for rules 1 to 5 the set is
- * zero.
- *
- * The caller owes: neither pointer is null (also where a length is 0), each area has the length given, and the two do not overlap. */
+ * The calls use no heap, no global variable, no file and no errno. They may run in several threads at once, each with a buffer of its own; the
+ * sheet may be one for all. The sheet and the buffer need no alignment, and what the buffer holds before a call doesn't matter. */
+
+/* WHAT IS PROVED, by machine, for every sheet, cut, budget and buffer for which the caller gives what it owes: which number comes back; every byte
+ * of the buffer afterwards; that the verdict is right (out of reach exactly when no row of steps gains the goal, through terms on the sheet or not; the
+ * rungs of a reached goal follow from each other and gain it; there are at most n of them); that no memory but the two areas and the stack is
+ * touched; and that the call ends. Assumed are the checker, the compiler's back end, and that keys are perfect: a seal shows nothing without
+ * its key. */
+
+/* The verdict on a sheet after the first `cut` heard messages, 0 to h, with at most `budget` rungs, 0 to 256. The answers and the buffer's bytes are
+ * said above. A budget of ZUWENDRYK_MOST_RUNGS is enough for every sheet. The time grows with the square of n. */
 uint32_t zuwendryk_verdict(const uint8_t *sheet, size_t sheet_len, uint32_t cut, uint32_t budget, uint8_t *buffer, size_t buffer_len);
 
-/* Is this a good sheet? The number of the refusal, 1 to 7, or 0. The pointer is not null. */
+/* Is this a good sheet? The number of the refusal, 1 to 7, or 0 for a good one. */
 uint32_t zuwendryk_validate(const uint8_t *sheet, size_t sheet_len);
 
 #ifdef __cplusplus
