@@ -113,8 +113,9 @@ extern "C" {
  *     5 seal      a term sealed under a term             the message     the key          zero
  *     6 sum       the sum of a set of terms              65,535          65,535           the summed entries; none for zero
  *
- * A call makes the rung that gains the lowest head not yet gained; of several, the one of the lowest rule, then of the lowest first source. It
- * ends when the goal is gained, when nothing follows, or when the budget of rungs is used up. */
+ * Of all rungs that could follow, a call makes the one that gains the lowest head; of several ways to gain it, that of the lowest rule, then of
+ * the lowest first source. A sum is made of the one set that gives it among the gained entries that were not, when gained, sums of those gained
+ * before. The call ends when the goal is gained, when no rung follows, or when the budget of rungs is used up. */
 #define ZUWENDRYK_RULE_LEFT 1
 #define ZUWENDRYK_RULE_RIGHT 2
 #define ZUWENDRYK_RULE_OPEN 3
