@@ -9,7 +9,6 @@
 #include "zuwendryk.h"
 #include <limits.h>
 #include <pthread.h>
-#include <signal.h>
 #include <stdio.h>
 #include <sys/mman.h>
 #include <sys/wait.h>
