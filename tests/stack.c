@@ -176,13 +176,15 @@ static size_t run(const struct call *call, size_t room, uint8_t fill) {
     return result->top - result->deepest;
 }
 
-/* Measures a call over two fills, since a byte written may have the fill's value; then runs it with the room said. Answers the bytes, or 0. */
-static size_t judge(const struct call *c, size_t said) {
+/* Measures a call over two fills, since a byte written may have the fill's value; then runs it with the room said. Answers 1 if the
+ * call answers as expected and keeps to the room. */
+static int judge(const struct call *c, size_t said, size_t *most) {
     size_t once = run(c, MUCH, 0xa5), again = run(c, MUCH, 0x5a), bytes = once > again ? once : again;
     if (!once || !again || result->answer < c->least || result->answer > c->most) {
         printf("stack: %s: answer %u, expected %u to %u\n", c->name, (unsigned)result->answer, (unsigned)c->least, (unsigned)c->most);
         return 0;
     }
+    if (bytes > *most) *most = bytes;
     if (bytes > said) {
         printf("stack: %s: touches %zu bytes, the header says %zu\n", c->name, bytes, said);
         return 0;
@@ -191,7 +193,7 @@ static size_t judge(const struct call *c, size_t said) {
         printf("stack: %s: did not come to its end on a stack of the %zu bytes that the header says\n", c->name, said);
         return 0;
     }
-    return bytes;
+    return 1;
 }
 
 /* The thread that the header says is enough. */
@@ -222,9 +224,7 @@ int main(void) {
     if (result == MAP_FAILED) return 2;
     for (unsigned i = 0; i < count; i++) {
         enum kind kind = calls[i].kind;
-        size_t bytes = judge(&calls[i], kind == VERDICT ? ZUWENDRYK_STACK : ZUWENDRYK_STACK_REFUSED);
-        if (bytes > most[kind]) most[kind] = bytes;
-        passed += bytes > 0;
+        if (judge(&calls[i], kind == VERDICT ? ZUWENDRYK_STACK : ZUWENDRYK_STACK_REFUSED, &most[kind])) passed++;
     }
     if (plain()) passed++;
     else printf("stack: a thread with a stack of PTHREAD_STACK_MIN + ZUWENDRYK_STACK did not come to its end\n");
