@@ -180,10 +180,10 @@ extern "C" {
  * sheet may be one for all. The sheet and the buffer need no alignment, and what the buffer holds before a call doesn't matter. */
 
 /* WHAT IS PROVED, by machine, for every sheet, cut, budget and buffer for which the caller gives what it owes: which number comes back; every byte
- * of the buffer afterwards; that the verdict is right (out of reach exactly when no row of steps gains the goal, through terms on the sheet or not; the
- * rungs of a reached goal follow from each other and gain it; there are at most n of them); that no memory but the two areas and the stack is
- * touched; and that the call ends. Assumed are the checker, the compiler's back end, and that keys are perfect: a seal shows nothing without
- * its key. */
+ * of the buffer afterwards; that the verdict is right; that no memory but the two areas and the stack is touched; and that the call ends. A verdict
+ * is right when out of reach comes only where no finite row of steps gains the goal, through terms on the sheet or not, and with a budget of n or
+ * more always there; and when the rungs of a reached goal follow from the messages and from each other, gain it, and are at most n. Assumed
+ * are the checker, the compiler's back end, and that keys are perfect: a seal shows nothing without its key. */
 
 /* The verdict on a sheet after the first `cut` heard messages, 0 to h, with at most `budget` rungs, 0 to 256. The answers and the buffer's bytes are
  * said above. A budget of ZUWENDRYK_MOST_RUNGS is enough for every sheet. The time grows with the square of n. */
