@@ -1,6 +1,6 @@
 -- What a run needs and what it hands back.
 -- Defined: `verdictOf`, the verdict that the program's answer names; `endAs`, the end of a run; `Ready`, the tables, the state and the buffer at the start; `Ran`, all
--- that holds at the end: verdict, count, state, and every byte and set that may have been written.
+-- that holds at the end: verdict, count, state, and every byte and word that may have been written.
 use Prim.Native.Nat.{ℕ, _+_, _*_, _≤_}
 use mathlib.Core.Path.{_≡_}
 use mathlib.Core.List.{List, _++_}
@@ -27,28 +27,28 @@ verdictOf Exhausted = theory.exhausted
 abbrev pub endAs : Verdict → ℕ → List ℕ → ℕ → program.Ended
 endAs v made known len = record { verdict = v; made = made; known = known; len = len }
 
-pub record Ready (s keys : List ℕ) (sets : List (List ℕ)) (reps known : List ℕ) (rows : List (List ℕ)) (len : ℕ) (remainders : List (List ℕ)) (budget : ℕ) (out : List ℕ) : Type 0 where
+pub record Ready (s keys : List ℕ) (sets : List (List ℕ)) (reps known rows : List ℕ) (len : ℕ) (remainders : List (List ℕ)) (budget : ℕ) (out : List ℕ) : Type 0 where
   pub good : refusal s ≡ 0
   pub right : Right (entryAt s) (countOf s) keys sets reps
   pub sized : Sized keys sets reps
-  pub places : length rows ≡ 512
+  pub words : length rows ≡ 2048
   pub lines : length remainders ≡ 256
   pub room : Room known len
   pub cache : Remainders (setAt (entryAt s)) (countOf s) rows len remainders
   pub limit : budget ≤ 256
   pub space : 32 + 40 * budget ≤ length out
 
--- the run from the state in memory
-abbrev pub endOf : List ℕ → ℕ → List ℕ → List (List ℕ) → ℕ → Ended
+-- the run from the state that the words hold
+abbrev pub endOf : List ℕ → ℕ → List ℕ → List ℕ → ℕ → Ended
 endOf s budget known rows len = machine (entryAt s) (countOf s) (goalOf s) budget (stateOf known rows len)
 
-pub record Ran (s known : List ℕ) (rows : List (List ℕ)) (len : ℕ) (remainders : List (List ℕ)) (budget : ℕ) (out : List ℕ) (r : program.Ended) (rows′ remainders′ : List (List ℕ)) (out′ : List ℕ) : Type 0 where
+pub record Ran (s known rows : List ℕ) (len : ℕ) (remainders : List (List ℕ)) (budget : ℕ) (out : List ℕ) (r : program.Ended) (rows′ : List ℕ) (remainders′ : List (List ℕ)) (out′ : List ℕ) : Type 0 where
   pub verdict : verdictOf (r .verdict) ≡ endOf s budget known rows len .verdict
   pub count : r .made ≡ length (endOf s budget known rows len .steps)
   pub state : stateOf (r .known) rows′ (r .len) ≡ endOf s budget known rows len .final
   -- "40 bytes a rung .. Later bytes keep their values"
   pub bytes : out′ ≡ take 32 out ++ (stepsBytes (endOf s budget known rows len .steps) ++ drop (32 + 40 * r .made) out)
   pub room : Room (r .known) (r .len)
-  pub kept : SameOutside (2 * len) (2 * r .len) rows rows′
+  pub kept : SameOutside (8 * len) (8 * r .len) rows rows′
   pub cache : Remainders (setAt (entryAt s)) (countOf s) rows′ (r .len) remainders′
   pub others : SameOutside 0 (countOf s) remainders remainders′

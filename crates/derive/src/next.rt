@@ -144,10 +144,10 @@ pub fn step_of(
     x: u32,
     keys: &[u64; 256],
     sets: &[[u64; 4]; 256],
-    rows: &[[u64; 4]; 512],
+    rows: &[u64; 2048],
     len: usize,
 ) -> Step
-    requires { ⌜ (length (now rows) ≡ 512) × (len ≤ 256) ⌝ }
+    requires { ⌜ (length (now rows) ≡ 2048) × (len ≤ 256) ⌝ }
     ensures { λ r. ⌜ stepOf r ≡ stepIn (now (keys .entry)) (now (sets .entry)) (rowsOf (now (rows .entry)) len) x ⌝ }
 {
     let head = (x / 65536 % 256) as u8;

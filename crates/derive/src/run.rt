@@ -13,7 +13,7 @@ ghost use Rattle.derive.specs.Ran.{endAs, Ready, Ran};
 use crate::next;
 use crate::writer;
 use dag::sheet;
-use knowledge::Knowledge;
+use knowledge::Learnt;
 
 // How a run ends.
 pub enum Verdict {
@@ -48,17 +48,17 @@ fn make(
     keys: &[u64; 256],
     sets: &[[u64; 4]; 256],
     known: [u64; 4],
-    rows: &mut [[u64; 4]; 512],
+    rows: &mut [u64; 2048],
     len: usize,
     remainders: &mut [[u64; 4]; 256],
     n: usize,
     out: &mut [u8],
-) -> Knowledge
-    requires { ⌜ (length (now rows) ≡ 512) × (length (now remainders) ≡ 256) × (n ≤ 256) × (len ≤ 256) × Room known len × (40 ≤ length (now out)) ⌝ }
+) -> Learnt
+    requires { ⌜ (length (now rows) ≡ 2048) × (length (now remainders) ≡ 256) × (n ≤ 256) × (len ≤ 256) × Room known len × (40 ≤ length (now out)) ⌝ }
     ensures bytes { λ _. ⌜ now (out .exit) ≡ stepBytes (stepIn (now (keys .entry)) (now (sets .entry)) (rowsOf (now (rows .entry)) len) x) ++ drop 40 (now (out .entry)) ⌝ }
     ensures state { λ r. ⌜ stateOf (r .known) (now (rows .exit)) (r .len) ≡ learnAs (stateOf known (now (rows .entry)) len) (x / 65536 % 256) (value (getD (now (sets .entry)) (x / 65536 % 256) [])) ⌝ }
     ensures room { λ r. ⌜ Room (r .known) (r .len) ⌝ }
-    ensures kept { λ r. ⌜ SameOutside (2 * len) (2 * r .len) (now (rows .entry)) (now (rows .exit)) ⌝ }
+    ensures kept { λ r. ⌜ SameOutside (8 * len) (8 * r .len) (now (rows .entry)) (now (rows .exit)) ⌝ }
     ensures tables { λ r. ⌜ ((s : ℕ → ℕ) → Remainders s n (now (rows .entry)) len (now (remainders .entry)) → Remainders s n (now (rows .exit)) (r .len) (now (remainders .exit))) × SameOutside 0 n (now (remainders .entry)) (now (remainders .exit)) ⌝ }
 {
     let step = next::step_of(x, keys, sets, rows, len);
@@ -74,7 +74,7 @@ pub fn run(
     sets: &[[u64; 4]; 256],
     reps: &[u8; 256],
     known: [u64; 4],
-    rows: &mut [[u64; 4]; 512],
+    rows: &mut [u64; 2048],
     len: usize,
     remainders: &mut [[u64; 4]; 256],
     budget: u16,

@@ -1,5 +1,5 @@
--- Basis rows in memory: a list of sets, two to a row, its vector and then its uses.
--- Defined: `rowAt`, `rowsOf`; `withoutRow`, a set with a row taken off; `SameOutside`, what a store keeps;
+-- Basis rows in memory: eight words a row, four of its vector and four of its uses, in one list of words.
+-- Defined: `wordsAt`, `rowAt`, `rowsOf`; `withoutRow`, a set with a row taken off; `SameOutside`, what a store keeps;
 -- `Remainders`, a table of what the rows leave of each set.
 -- What rows are and what is done with them: specs/Elimination.antt of `deduction`.
 use Prim.Native.Nat.{ℕ, zero, suc, _+_, _*_, _≤_, _<_}
@@ -12,14 +12,18 @@ use Rattle.bitset.specs.Set.{member, leading}
 use Rattle.bitset.specs.Words.{value}
 use Rattle.deduction.specs.Elimination.{Row, reduce}
 
--- row i: its vector at place 2 * i, its uses at the next
-abbrev pub rowAt : List (List ℕ) → ℕ → Row
-rowAt rs i = record { vector = value (getD rs (2 * i) []); uses = value (getD rs (2 * i + 1) []) }
+-- the four words from k on
+abbrev pub wordsAt : List ℕ → ℕ → List ℕ
+wordsAt ws k = getD ws k 0 ∷ getD ws (k + 1) 0 ∷ getD ws (k + 2) 0 ∷ getD ws (k + 3) 0 ∷ []
+
+-- row i: four words of its vector, four of its uses
+abbrev pub rowAt : List ℕ → ℕ → Row
+rowAt ws i = record { vector = value (wordsAt ws (8 * i)); uses = value (wordsAt ws (8 * i + 4)) }
 
 -- the first n rows, the newest last
-unfoldable pub rowsOf : List (List ℕ) → ℕ → List Row
-rowsOf rs zero = []
-rowsOf rs (suc n) = rowsOf rs n ++ (rowAt rs n ∷ [])
+unfoldable pub rowsOf : List ℕ → ℕ → List Row
+rowsOf ws zero = []
+rowsOf ws (suc n) = rowsOf ws n ++ (rowAt ws n ∷ [])
 
 -- a set without a row whose pivot it has
 abbrev pub withoutRow : ℕ → Row → ℕ
@@ -32,5 +36,5 @@ pub record SameOutside {A : Type 0} (a b : ℕ) (ws vs : List A) : Type 0 where
   pub over : (k : ℕ) (d : A) → b ≤ k → getD vs k d ≡ getD ws k d
 
 -- the first n sets of the table are what the first len rows leave of the sets `s i`
-abbrev pub Remainders : (ℕ → ℕ) → ℕ → List (List ℕ) → ℕ → List (List ℕ) → Type 0
-Remainders s n rs len ts = (i : ℕ) → i < n → value (getD ts i []) ≡ reduce (rowsOf rs len) (s i) .remainder
+abbrev pub Remainders : (ℕ → ℕ) → ℕ → List ℕ → ℕ → List (List ℕ) → Type 0
+Remainders s n ws len ts = (i : ℕ) → i < n → value (getD ts i []) ≡ reduce (rowsOf ws len) (s i) .remainder

@@ -7,8 +7,8 @@ use Rattle.bitset.specs.Words.{value}
 use Rattle.deduction.specs.Elimination as elimination
 use Rattle.knowledge.specs.Rows.{rowsOf}
 
--- the known set's words, the rows' sets and the number of rows
-abbrev pub stateOf : List ℕ → List (List ℕ) → ℕ → elimination.Knowledge
+-- the known set's words, the rows' words and the number of rows
+abbrev pub stateOf : List ℕ → List ℕ → ℕ → elimination.Knowledge
 stateOf known rows len = record { known = value known; rows = rowsOf rows len }
 
 -- the remainder's words and the used set's

@@ -9,13 +9,20 @@ ghost use lib.Dec.{eqb};
 ghost use lib.ListN.{length, getD};
 ghost use Rattle.bitset.specs.Set.{member};
 ghost use Rattle.bitset.specs.Words.{value};
-ghost use Rattle.deduction.specs.Elimination.{reduce, learnAs, take-off};
-ghost use Rattle.knowledge.specs.Rows.{rowAt, rowsOf, withoutRow, SameOutside, Remainders};
+ghost use Rattle.deduction.specs.Elimination.{reduce, nothing, learnAs, take-off};
+ghost use Rattle.knowledge.specs.Rows.{wordsAt, rowAt, rowsOf, withoutRow, SameOutside, Remainders};
 ghost use Rattle.knowledge.specs.State.{stateOf, reducedOf, Room};
 
-// What the intruder knows: the known representatives, and the number of basis rows, in the order learnt. The rows stand in a lent array of
-// sets, so that a state is small: row i is its vector at place 2 * i, and at 2 * i + 1 its uses, the learnt entries whose sum it is.
+// What the intruder knows: the known representatives, and a basis of rows in the order learnt. Row i is the eight words from 8 * i on: four of
+// its vector, then four of its uses, the learnt entries whose sum it is.
 pub struct Knowledge {
+    pub known: [u64; 4],
+    pub rows: [u64; 2048],
+    pub len: usize,
+}
+
+// A state whose rows stand in a lent array: the known representatives and the number of rows.
+pub struct Learnt {
     pub known: [u64; 4],
     pub len: usize,
 }
@@ -26,25 +33,33 @@ pub struct Reduced {
     pub used: [u64; 4],
 }
 
-// The set of row i.
-pub fn vector(rows: &[[u64; 4]; 512], i: usize) -> [u64; 4]
-    requires { ⌜ (length (now rows) ≡ 512) × (i < 256) ⌝ }
-    ensures { λ r. ⌜ r ≡ getD (now (rows .entry)) (2 * i) [] ⌝ }
+// The four words from at on.
+fn words(rows: &[u64; 2048], at: usize) -> [u64; 4]
+    requires { ⌜ (length (now rows) ≡ 2048) × (at + 4 ≤ 2048) ⌝ }
+    ensures { λ r. ⌜ r ≡ wordsAt (now (rows .entry)) at ⌝ }
 {
-    rows[2 * i]
+    [rows[at], rows[at + 1], rows[at + 2], rows[at + 3]]
+}
+
+// The set of row i.
+fn vector(rows: &[u64; 2048], i: usize) -> [u64; 4]
+    requires { ⌜ (length (now rows) ≡ 2048) × (i < 256) ⌝ }
+    ensures { λ r. ⌜ r ≡ wordsAt (now (rows .entry)) (8 * i) ⌝ }
+{
+    words(rows, 8 * i)
 }
 
 // The learnt entries whose sum row i is.
-pub fn uses(rows: &[[u64; 4]; 512], i: usize) -> [u64; 4]
-    requires { ⌜ (length (now rows) ≡ 512) × (i < 256) ⌝ }
-    ensures { λ r. ⌜ r ≡ getD (now (rows .entry)) (2 * i + 1) [] ⌝ }
+fn uses(rows: &[u64; 2048], i: usize) -> [u64; 4]
+    requires { ⌜ (length (now rows) ≡ 2048) × (i < 256) ⌝ }
+    ensures { λ r. ⌜ r ≡ wordsAt (now (rows .entry)) (8 * i + 4) ⌝ }
 {
-    rows[2 * i + 1]
+    words(rows, 8 * i + 4)
 }
 
 // One step of the sum test: row i taken off, if the remainder has its pivot.
-fn take_row(x: Reduced, rows: &[[u64; 4]; 512], i: usize) -> Reduced
-    requires { ⌜ (length (now rows) ≡ 512) × (i < 256) ⌝ }
+fn take_row(x: Reduced, rows: &[u64; 2048], i: usize) -> Reduced
+    requires { ⌜ (length (now rows) ≡ 2048) × (i < 256) ⌝ }
     ensures { λ r. ⌜ reducedOf (r .remainder) (r .used) ≡ take-off (reducedOf (x .remainder) (x .used)) (rowAt (now (rows .entry)) i) ⌝ }
 {
     let row = vector(rows, i);
@@ -61,8 +76,8 @@ fn take_row(x: Reduced, rows: &[[u64; 4]; 512], i: usize) -> Reduced
 }
 
 // The sum test: takes the first len rows off v in order. It always hands back the exact remainder and the learnt entries used.
-pub fn reduce(rows: &[[u64; 4]; 512], len: usize, v: [u64; 4]) -> Reduced
-    requires { ⌜ (length (now rows) ≡ 512) × (len ≤ 256) ⌝ }
+pub fn reduce(rows: &[u64; 2048], len: usize, v: [u64; 4]) -> Reduced
+    requires { ⌜ (length (now rows) ≡ 2048) × (len ≤ 256) ⌝ }
     ensures { λ r. ⌜ reducedOf (r .remainder) (r .used) ≡ reduce (rowsOf (now (rows .entry)) len) (value v) ⌝ }
 {
     let mut x = Reduced {
@@ -78,42 +93,84 @@ pub fn reduce(rows: &[[u64; 4]; 512], len: usize, v: [u64; 4]) -> Reduced
     x
 }
 
-// Stores row at: its vector and the learnt entries whose sum it is.
-fn push(rows: &mut [[u64; 4]; 512], at: usize, vector: [u64; 4], uses: [u64; 4])
-    requires { ⌜ (length (now rows) ≡ 512) × (at < 256) ⌝ }
-    ensures row { λ r. ⌜ rowAt (now (rows .exit)) at ≡ record { vector = value vector; uses = value uses } ⌝ }
-    ensures kept { λ r. ⌜ SameOutside (2 * at) (2 * (at + 1)) (now (rows .entry)) (now (rows .exit)) ⌝ }
+// Writes the four words of s from at on.
+fn put(rows: &mut [u64; 2048], at: usize, s: [u64; 4])
+    requires { ⌜ (length (now rows) ≡ 2048) × (at + 4 ≤ 2048) ⌝ }
+    ensures { λ r. ⌜ wordsAt (now (rows .exit)) at ≡ s ⌝ }
+    ensures kept { λ r. ⌜ SameOutside at (at + 4) (now (rows .entry)) (now (rows .exit)) ⌝ }
 {
-    rows[2 * at] = vector;
-    rows[2 * at + 1] = uses;
+    rows[at] = s[0];
+    rows[at + 1] = s[1];
+    rows[at + 2] = s[2];
+    rows[at + 3] = s[3];
+}
+
+// Stores row at: its vector and the learnt entries whose sum it is.
+fn push(rows: &mut [u64; 2048], at: usize, vector: [u64; 4], uses: [u64; 4])
+    requires { ⌜ (length (now rows) ≡ 2048) × (at < 256) ⌝ }
+    ensures row { λ r. ⌜ rowAt (now (rows .exit)) at ≡ record { vector = value vector; uses = value uses } ⌝ }
+    ensures kept { λ r. ⌜ SameOutside (8 * at) (8 * (at + 1)) (now (rows .entry)) (now (rows .exit)) ⌝ }
+{
+    put(rows, 8 * at, vector);
+    put(rows, 8 * at + 4, uses);
+}
+
+// Learns the representative e, whose set is set. A known one changes nothing. A new one joins the known set, and what the rows leave of its
+// set, if anything, becomes a row.
+fn learn(known: [u64; 4], rows: &mut [u64; 2048], len: usize, e: u8, set: [u64; 4]) -> Learnt
+    requires { ⌜ (length (now rows) ≡ 2048) × Room known len ⌝ }
+    ensures state { λ r. ⌜ stateOf (r .known) (now (rows .exit)) (r .len) ≡ learnAs (stateOf known (now (rows .entry)) len) e (value set) ⌝ }
+    ensures room { λ r. ⌜ Room (r .known) (r .len) ⌝ }
+    ensures kept { λ r. ⌜ SameOutside (8 * len) (8 * r .len) (now (rows .entry)) (now (rows .exit)) ⌝ }
+{
+    if bitset::member(known, e) {
+        return Learnt { known, len };
+    }
+    let own = bitset::singleton(e);
+    let more = bitset::sum(known, own);
+    let x = reduce(rows, len, set);
+    let remainder = x.remainder;
+    if bitset::is_empty(remainder) {
+        return Learnt { known: more, len };
+    }
+    let used = x.used;
+    let uses = bitset::sum(used, own);
+    let next = len + 1;
+    push(rows, len, remainder, uses);
+    Learnt {
+        known: more,
+        len: next,
+    }
 }
 
 impl Knowledge {
-    // "Hearing a term takes the listener's state and hands the enlarged one back": learns the representative e, whose set is set.
-    // A known one changes nothing. A new one joins the known set, and what the rows leave of its set, if anything, becomes a row.
-    pub fn hear(mut self, rows: &mut [[u64; 4]; 512], e: u8, set: [u64; 4]) -> Self
-        requires { ⌜ (length (now rows) ≡ 512) × Room (self .known) (self .len) ⌝ }
-        ensures state { λ r. ⌜ stateOf (r .known) (now (rows .exit)) (r .len) ≡ learnAs (stateOf (self .known) (now (rows .entry)) (self .len)) e (value set) ⌝ }
+    // Nothing is known.
+    pub fn new() -> Self
+        ensures state { λ r. ⌜ stateOf (r .known) (r .rows) (r .len) ≡ nothing ⌝ }
         ensures room { λ r. ⌜ Room (r .known) (r .len) ⌝ }
-        ensures kept { λ r. ⌜ SameOutside (2 * self .len) (2 * r .len) (now (rows .entry)) (now (rows .exit)) ⌝ }
+    {
+        let known = bitset::empty();
+        let rows = [0u64; 2048];
+        Knowledge {
+            known,
+            rows,
+            len: 0,
+        }
+    }
+
+    // "Hearing a term takes the listener's state and hands the enlarged one back": learns the representative e, whose set is set.
+    pub fn hear(mut self, e: u8, set: [u64; 4]) -> Self
+        requires { ⌜ Room (self .known) (self .len) ⌝ }
+        ensures state { λ r. ⌜ stateOf (r .known) (r .rows) (r .len) ≡ learnAs (stateOf (self .known) (self .rows) (self .len)) e (value set) ⌝ }
+        ensures room { λ r. ⌜ Room (r .known) (r .len) ⌝ }
+        ensures kept { λ r. ⌜ SameOutside (8 * self .len) (8 * r .len) (self .rows) (r .rows) ⌝ }
     {
         let known = self.known;
         let len = self.len;
-        if bitset::member(known, e) {
-            return self;
-        }
-        let own = bitset::singleton(e);
-        let more = bitset::sum(known, own);
+        let learnt = learn(known, &mut self.rows, len, e, set);
+        let more = learnt.known;
         self.known = more;
-        let x = reduce(rows, len, set);
-        let remainder = x.remainder;
-        if bitset::is_empty(remainder) {
-            return self;
-        }
-        let used = x.used;
-        let uses = bitset::sum(used, own);
-        self.len = len + 1;
-        push(rows, len, remainder, uses);
+        self.len = learnt.len;
         self
     }
 }
@@ -131,8 +188,8 @@ fn take_off(remainders: &mut [[u64; 4]; 256], k: usize, row: [u64; 4], pivot: u8
 }
 
 // Takes row i off the first n remainders. What is left by the rows before row i becomes what is left with row i too.
-pub fn sweep(remainders: &mut [[u64; 4]; 256], n: usize, rows: &[[u64; 4]; 512], i: usize)
-    requires { ⌜ (length (now remainders) ≡ 256) × (n ≤ 256) × (length (now rows) ≡ 512) × (i < 256) ⌝ }
+fn sweep(remainders: &mut [[u64; 4]; 256], n: usize, rows: &[u64; 2048], i: usize)
+    requires { ⌜ (length (now remainders) ≡ 256) × (n ≤ 256) × (length (now rows) ≡ 2048) × (i < 256) ⌝ }
     ensures swept { λ r. ⌜ ((k : ℕ) → k < n → value (getD (now (remainders .exit)) k []) ≡ withoutRow (value (getD (now (remainders .entry)) k [])) (rowAt (now (rows .entry)) i)) ⌝ }
     ensures kept { λ r. ⌜ SameOutside 0 n (now (remainders .entry)) (now (remainders .exit)) ⌝ }
 {
@@ -145,28 +202,43 @@ pub fn sweep(remainders: &mut [[u64; 4]; 256], n: usize, rows: &[[u64; 4]; 512],
     }
 }
 
-// Learns e, and keeps each entry's remainder in the table: where a row was added, it is taken off all of them.
+// Keeps the first n remainders after a term was learnt: where there is a row more than before, it is taken off all of them.
+pub fn sweep_added(
+    remainders: &mut [[u64; 4]; 256],
+    n: usize,
+    rows: &[u64; 2048],
+    before: usize,
+    after: usize,
+)
+    requires { ⌜ (length (now remainders) ≡ 256) × (n ≤ 256) × (length (now rows) ≡ 2048) × (before ≤ after) × (after ≤ before + 1) × (after ≤ 256) ⌝ }
+    ensures cache { λ _. ⌜ ((s : ℕ → ℕ) → Remainders s n (now (rows .entry)) before (now (remainders .entry)) → Remainders s n (now (rows .entry)) after (now (remainders .exit))) ⌝ }
+    ensures others { λ _. ⌜ SameOutside 0 n (now (remainders .entry)) (now (remainders .exit)) ⌝ }
+    ensures lines { λ _. ⌜ ((k : ℕ) → k < n → value (getD (now (remainders .exit)) k []) ≡ cond (eqb after before) (value (getD (now (remainders .entry)) k [])) (withoutRow (value (getD (now (remainders .entry)) k [])) (rowAt (now (rows .entry)) before))) ⌝ }
+{
+    if after != before {
+        sweep(remainders, n, rows, before);
+    }
+}
+
+// Learns e into lent rows, and keeps each entry's remainder in the table.
 pub fn gain(
     known: [u64; 4],
-    rows: &mut [[u64; 4]; 512],
+    rows: &mut [u64; 2048],
     len: usize,
     remainders: &mut [[u64; 4]; 256],
     n: usize,
     e: u8,
     set: [u64; 4],
-) -> Knowledge
-    requires { ⌜ (length (now rows) ≡ 512) × (length (now remainders) ≡ 256) × (n ≤ 256) × Room known len ⌝ }
+) -> Learnt
+    requires { ⌜ (length (now rows) ≡ 2048) × (length (now remainders) ≡ 256) × (n ≤ 256) × Room known len ⌝ }
     ensures state { λ r. ⌜ stateOf (r .known) (now (rows .exit)) (r .len) ≡ learnAs (stateOf known (now (rows .entry)) len) e (value set) ⌝ }
     ensures room { λ r. ⌜ Room (r .known) (r .len) ⌝ }
-    ensures kept { λ r. ⌜ SameOutside (2 * len) (2 * r .len) (now (rows .entry)) (now (rows .exit)) ⌝ }
+    ensures kept { λ r. ⌜ SameOutside (8 * len) (8 * r .len) (now (rows .entry)) (now (rows .exit)) ⌝ }
     ensures cache { λ r. ⌜ ((s : ℕ → ℕ) → Remainders s n (now (rows .entry)) len (now (remainders .entry)) → Remainders s n (now (rows .exit)) (r .len) (now (remainders .exit))) ⌝ }
     ensures others { λ _. ⌜ SameOutside 0 n (now (remainders .entry)) (now (remainders .exit)) ⌝ }
     ensures lines { λ r. ⌜ ((k : ℕ) → k < n → value (getD (now (remainders .exit)) k []) ≡ cond (eqb (r .len) len) (value (getD (now (remainders .entry)) k [])) (withoutRow (value (getD (now (remainders .entry)) k [])) (rowAt (now (rows .exit)) len))) ⌝ }
 {
-    let before = Knowledge { known, len };
-    let learnt = before.hear(rows, e, set);
-    if learnt.len != len {
-        sweep(remainders, n, rows, len);
-    }
+    let learnt = learn(known, rows, len, e, set);
+    sweep_added(remainders, n, rows, len, learnt.len);
     learnt
 }

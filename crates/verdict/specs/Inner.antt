@@ -16,12 +16,11 @@ use Rattle.derive.specs.declared.run.Ended.{Ended}
 use Rattle.verdict.specs.Answer.{outcomeOf}
 
 -- the tables hold the sets and representatives of a good sheet's entries, and each remainder is its set
-pub record Heard (s : List ℕ) (cut : ℕ) (sets : List (List ℕ)) (reps : List ℕ) (rows remainders : List (List ℕ)) : Type 0 where
+pub record Heard (s : List ℕ) (cut : ℕ) (sets : List (List ℕ)) (reps : List ℕ) (remainders : List (List ℕ)) : Type 0 where
   pub good : refusal s ≡ 0
   pub within : cut ≤ traceLength s
   pub set : (i : ℕ) → i < countOf s → value (getD sets i []) ≡ setAt (entryAt s) i
   pub rep : (i : ℕ) → i < countOf s → getD reps i 0 ≡ repAt (entryAt s) i
-  pub places : length rows ≡ 512
   pub lines : length remainders ≡ 256
   pub fresh : (i : ℕ) → i < countOf s → value (getD remainders i []) ≡ setAt (entryAt s) i
 

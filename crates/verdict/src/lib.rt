@@ -30,34 +30,33 @@ pub enum Answer {
     Exhausted(u16),
 }
 
-// Learns the heard messages before the cut, in order, each as its representative.
+// Hears the messages before the cut, in order, each as its representative.
 fn hear(
     s: &[u8],
     cut: u16,
     sets: &[[u64; 4]; 256],
     reps: &[u8; 256],
-    rows: &mut [[u64; 4]; 512],
     remainders: &mut [[u64; 4]; 256],
 ) -> Knowledge
-    requires { ⌜ Heard (now s) cut (now sets) (now reps) (now rows) (now remainders) ⌝ }
-    ensures state { λ r. ⌜ stateOf (r .known) (now (rows .exit)) (r .len) ≡ knowledge (entryAt (now (s .entry))) (startHeads (now (s .entry)) cut) ⌝ }
+    requires { ⌜ Heard (now s) cut (now sets) (now reps) (now remainders) ⌝ }
+    ensures state { λ r. ⌜ stateOf (r .known) (r .rows) (r .len) ≡ knowledge (entryAt (now (s .entry))) (startHeads (now (s .entry)) cut) ⌝ }
     ensures room { λ r. ⌜ Room (r .known) (r .len) ⌝ }
-    ensures sizes { λ _. ⌜ (length (now (rows .exit)) ≡ 512) × (length (now (remainders .exit)) ≡ 256) ⌝ }
-    ensures cache { λ r. ⌜ Remainders (setAt (entryAt (now (s .entry)))) (countOf (now (s .entry))) (now (rows .exit)) (r .len) (now (remainders .exit)) ⌝ }
+    ensures sizes { λ r. ⌜ (length (r .rows) ≡ 2048) × (length (now (remainders .exit)) ≡ 256) ⌝ }
+    ensures cache { λ r. ⌜ Remainders (setAt (entryAt (now (s .entry)))) (countOf (now (s .entry))) (r .rows) (r .len) (now (remainders .exit)) ⌝ }
 {
     let n = sheet::count(s) as usize;
-    let mut known = bitset::empty();
-    let mut len: usize = 0;
+    let mut state = Knowledge::new();
     let mut k: u16 = 0;
     while k < cut {
         let e = reps[sheet::trace_at(s, k) as usize];
-        let learnt = knowledge::gain(known, rows, len, remainders, n, e, sets[e as usize]);
-        let more = learnt.known;
-        known = more;
-        len = learnt.len;
+        let before = state.len;
+        let more = state.hear(e, sets[e as usize]);
+        state = more;
+        let after = state.len;
+        knowledge::sweep_added(remainders, n, &state.rows, before, after);
         k += 1;
     }
-    Knowledge { known, len }
+    state
 }
 
 // The verdict on a good sheet, with the steps and the known set written to out.
@@ -68,11 +67,11 @@ fn decide(s: &[u8], cut: u16, budget: u16, out: &mut [u8]) -> Ended
     let mut keys = [0u64; 256];
     let mut sets = [[0u64; 4]; 256];
     let mut reps = [0u8; 256];
-    let mut rows = [[0u64; 4]; 512];
     canonical::tables(s, &mut keys, &mut sets, &mut reps);
     let mut remainders = sets;
-    let start = hear(s, cut, &sets, &reps, &mut rows, &mut remainders);
+    let start = hear(s, cut, &sets, &reps, &mut remainders);
     let known = start.known;
+    let mut rows = start.rows;
     let ended = derive::run::run(
         s,
         &keys,

@@ -27,7 +27,7 @@ use Rattle.derive.specs.declared.run.Ended as program
 use Rattle.derive.proofs.Laws.Machine.{prepend, prepend-more, prepend-verdict, prepend-steps, prepend-final, endedAs, machine-step}
 use Rattle.derive.proofs.Laws.Buffer.{written-more}
 
-pub record Along (s have₀ : List ℕ) (rows₀ : List (List ℕ)) (used₀ : ℕ) (remainders₀ : List (List ℕ)) (budget : ℕ) (out₀ have : List ℕ) (rows : List (List ℕ)) (used : ℕ) (remainders : List (List ℕ)) (made : ℕ) (out : List ℕ) : Type 0 where
+pub record Along (s have₀ rows₀ : List ℕ) (used₀ : ℕ) (remainders₀ : List (List ℕ)) (budget : ℕ) (out₀ have rows : List ℕ) (used : ℕ) (remainders : List (List ℕ)) (made : ℕ) (out : List ℕ) : Type 0 where
   pub done : List Step
   pub many : length done ≡ made
   pub within : made ≤ budget
@@ -35,11 +35,11 @@ pub record Along (s have₀ : List ℕ) (rows₀ : List (List ℕ)) (used₀ : �
   pub bytes : out ≡ take 32 out₀ ++ (stepsBytes done ++ drop (32 + 40 * made) out₀)
   pub room : Room have used
   pub grown : used₀ ≤ used
-  pub kept : SameOutside (2 * used₀) (2 * used) rows₀ rows
+  pub kept : SameOutside (8 * used₀) (8 * used) rows₀ rows
   pub cache : Remainders (setAt (entryAt s)) (countOf s) rows used remainders
   pub others : SameOutside 0 (countOf s) remainders₀ remainders
 
-pub along-start : (s keys : List ℕ) (sets : List (List ℕ)) (reps known : List ℕ) (rows : List (List ℕ)) (len : ℕ) (remainders : List (List ℕ)) (budget : ℕ) (out : List ℕ)
+pub along-start : (s keys : List ℕ) (sets : List (List ℕ)) (reps known rows : List ℕ) (len : ℕ) (remainders : List (List ℕ)) (budget : ℕ) (out : List ℕ)
     → Ready s keys sets reps known rows len remainders budget out → Along s known rows len remainders budget out known rows len remainders 0 out
 unfolding prepend stepsBytes
 along-start s keys sets reps known rows len remainders budget out r =
@@ -51,12 +51,12 @@ along-start s keys sets reps known rows len remainders budget out r =
       bytes = sym (take-append-drop 32 out);
       room = r .room;
       grown = le-refl len;
-      kept = same-refl (2 * len) (2 * len) rows;
+      kept = same-refl (8 * len) (8 * len) rows;
       cache = r .cache;
       others = same-refl 0 (countOf s) remainders;
     }
 
-module _ {s have₀ : List ℕ} {rows₀ : List (List ℕ)} {used₀ : ℕ} {remainders₀ : List (List ℕ)} {budget : ℕ} {out₀ have : List ℕ} {rows : List (List ℕ)} {used : ℕ} {remainders : List (List ℕ)} {made : ℕ} {out : List ℕ}
+module _ {s have₀ rows₀ : List ℕ} {used₀ : ℕ} {remainders₀ : List (List ℕ)} {budget : ℕ} {out₀ have rows : List ℕ} {used : ℕ} {remainders : List (List ℕ)} {made : ℕ} {out : List ℕ}
     (a : Along s have₀ rows₀ used₀ remainders₀ budget out₀ have rows used remainders made out) where
   -- the rest of the run is no step: the run ends here
   along-ended : (v : Verdict) → machine (entryAt s) (countOf s) (goalOf s) (budget - made) (stateOf have rows used) ≡ endedAs (entryAt s) (countOf s) (goalOf s) (stateOf have rows used) (verdictOf v)
@@ -83,8 +83,8 @@ module _ {s have₀ : List ℕ} {rows₀ : List (List ℕ)} {used₀ : ℕ} {rem
   pub along-step : made < budget → 32 ≤ length out₀ → theory.reached (entryAt s) (goalOf s) (stateOf have rows used) ≡ false → (x : ℕ)
       → x ≡ theory.nextNumber (entryAt s) (countOf s) (stateOf have rows used) → (x ≡ theory.noStep → ⊥)
       → (t : Step) → t ≡ theory.stepAt (entryAt s) (stateOf have rows used) x → (h v : ℕ) → h ≡ theory.stepAt (entryAt s) (stateOf have rows used) x .head → v ≡ setAt (entryAt s) h
-      → (have′ : List ℕ) (rows′ : List (List ℕ)) (used′ : ℕ) (remainders′ : List (List ℕ)) (out′ : List ℕ) → stateOf have′ rows′ used′ ≡ learnAs (stateOf have rows used) h v
-      → out′ ≡ take (32 + 40 * made) out ++ (stepBytes t ++ drop 40 (drop (32 + 40 * made) out)) → Room have′ used′ → SameOutside (2 * used) (2 * used′) rows rows′
+      → (have′ rows′ : List ℕ) (used′ : ℕ) (remainders′ : List (List ℕ)) (out′ : List ℕ) → stateOf have′ rows′ used′ ≡ learnAs (stateOf have rows used) h v
+      → out′ ≡ take (32 + 40 * made) out ++ (stepBytes t ++ drop 40 (drop (32 + 40 * made) out)) → Room have′ used′ → SameOutside (8 * used) (8 * used′) rows rows′
       → ((f : ℕ → ℕ) → Remainders f (countOf s) rows used remainders → Remainders f (countOf s) rows′ used′ remainders′) → SameOutside 0 (countOf s) remainders remainders′
       → Along s have₀ rows₀ used₀ remainders₀ budget out₀ have′ rows′ used′ remainders′ (made + 1) out′
   unfolding stepNext
@@ -109,8 +109,8 @@ module _ {s have₀ : List ℕ} {rows₀ : List (List ℕ)} {used₀ : ℕ} {rem
         room = room;
         grown = le-trans (a .grown) up;
         kept =
-            same-trans (same-wider (2 * used₀) (2 * used′) (le-refl (2 * used₀)) (omega (arith, up)) (a .kept))
-            (same-wider (2 * used₀) (2 * used′) (omega (arith, a .grown)) (le-refl (2 * used′)) kept);
+            same-trans (same-wider (8 * used₀) (8 * used′) (le-refl (8 * used₀)) (omega (arith, up)) (a .kept))
+            (same-wider (8 * used₀) (8 * used′) (omega (arith, a .grown)) (le-refl (8 * used′)) kept);
         cache = cache (setAt (entryAt s)) (a .cache);
         others = same-trans (a .others) others;
       }

@@ -149,7 +149,7 @@ module _ (e : ℕ → Entry) (n : ℕ) (down : Downward e n) (few : n ≤ 256) (
   search-same g remainders = search-upto g remainders n (omega arith)
 
   -- with kept remainders it is the number of the next step
-  pub next-same : (known : List ℕ) (rows : List (List ℕ)) (len : ℕ) (remainders : List (List ℕ)) → Remainders (setAt e) n rows len remainders
+  pub next-same : (known rows : List ℕ) (len : ℕ) (remainders : List (List ℕ)) → Remainders (setAt e) n rows len remainders
       → searchLeast (value known) keys reps remainders n ≡ nextNumber e n (stateOf known rows len)
   unfolding nextNumber isSumOf
   next-same known rows len remainders h =
@@ -272,7 +272,7 @@ module _ (s : List ℕ) (ok : refusal s ≡ 0) (bytes : Bytes s) (keys : List �
   narrow : Narrow (entryAt s) (countOf s)
   narrow = narrow-bytes s (countOf s) bytes
 
-  pub sheet-next : (known : List ℕ) (rows : List (List ℕ)) (len : ℕ) (remainders : List (List ℕ)) → Remainders (setAt (entryAt s)) (countOf s) rows len remainders
+  pub sheet-next : (known rows : List ℕ) (len : ℕ) (remainders : List (List ℕ)) → Remainders (setAt (entryAt s)) (countOf s) rows len remainders
       → searchLeast (value known) keys reps remainders (countOf s) ≡ nextNumber (entryAt s) (countOf s) (stateOf known rows len)
   sheet-next = next-same (entryAt s) (countOf s) (good s ok .downward) (good s ok .few) narrow keys sets reps right
 

@@ -8,17 +8,19 @@ use native.Mathlib.Decide.{ℕ-discrete}
 use native.Mathlib.Omega.{arith}
 use lib.ListN.{getD}
 use Rattle.bitset.specs.Words.{value}
-use Rattle.deduction.specs.Elimination.{Row, Reduced, reduce}
+use Rattle.deduction.specs.Elimination.{Row, Knowledge, reduce, reduceFrom, nothing}
 use Rattle.knowledge.specs.Rows.{rowAt, withoutRow, SameOutside, Remainders}
-use Rattle.knowledge.proofs.Laws.Rows.{rowsOf-kept, remainder-next, reduce-first}
+use Rattle.knowledge.specs.State.{stateOf}
+use Rattle.knowledge.proofs.Laws.Rows.{rowsOf-kept, remainder-next}
 
--- by no row, each set is its own remainder
-pub remainders-first : (s : ℕ → ℕ) (n : ℕ) (rs ts : List (List ℕ)) → ((i : ℕ) → i < n → value (getD ts i []) ≡ s i) → Remainders s n rs 0 ts
-remainders-first s n rs ts h i l = h i l ∙ sym (ap (λ (x : Reduced). x .remainder) (reduce-first rs (s i)))
+-- where nothing is known, each set is its own remainder
+pub remainders-first : (s : ℕ → ℕ) (n : ℕ) (known ws : List ℕ) (len : ℕ) (ts : List (List ℕ)) → stateOf known ws len ≡ nothing → ((i : ℕ) → i < n → value (getD ts i []) ≡ s i) → Remainders s n ws len ts
+unfolding nothing reduce reduceFrom
+remainders-first s n known ws len ts p h i l = h i l ∙ sym (ap (λ (k : Knowledge). reduce (k .rows) (s i) .remainder) p)
 
 -- a row stored behind the first len changes none of their remainders
-pub remainders-kept : (s : ℕ → ℕ) (n : ℕ) {rs vs : List (List ℕ)} {a b : ℕ} (len : ℕ) (ts : List (List ℕ)) → 2 * len ≤ a → SameOutside a b rs vs
-    → Remainders s n rs len ts → Remainders s n vs len ts
+pub remainders-kept : (s : ℕ → ℕ) (n : ℕ) {ws vs : List ℕ} {a b : ℕ} (len : ℕ) (ts : List (List ℕ)) → 8 * len ≤ a → SameOutside a b ws vs
+    → Remainders s n ws len ts → Remainders s n vs len ts
 remainders-kept s n len ts h same before i l = before i l ∙ ap (λ (rows : List Row). reduce rows (s i) .remainder) (sym (rowsOf-kept len h same))
 
 -- the row off one set more
@@ -34,7 +36,7 @@ swept-more r ts₀ ts ts′ k kept before own j l = by-cases (ℕ-discrete j k) 
     other n = let h : j < k = omega arith in ap value (kept .under j [] h) ∙ before j h
 
 -- `sweep` by row len: remainders by one row more
-pub remainders-swept : (s : ℕ → ℕ) (n : ℕ) (rs : List (List ℕ)) (len : ℕ) (ts ts′ : List (List ℕ))
-    → ((i : ℕ) → i < n → value (getD ts′ i []) ≡ withoutRow (value (getD ts i [])) (rowAt rs len)) → Remainders s n rs len ts → Remainders s n rs (len + 1) ts′
-remainders-swept s n rs len ts ts′ swept before i l =
-    swept i l ∙ ap (λ (x : ℕ). withoutRow x (rowAt rs len)) (before i l) ∙ sym (remainder-next rs len (s i))
+pub remainders-swept : (s : ℕ → ℕ) (n : ℕ) (ws : List ℕ) (len : ℕ) (ts ts′ : List (List ℕ))
+    → ((i : ℕ) → i < n → value (getD ts′ i []) ≡ withoutRow (value (getD ts i [])) (rowAt ws len)) → Remainders s n ws len ts → Remainders s n ws (len + 1) ts′
+remainders-swept s n ws len ts ts′ swept before i l =
+    swept i l ∙ ap (λ (x : ℕ). withoutRow x (rowAt ws len)) (before i l) ∙ sym (remainder-next ws len (s i))

@@ -14,10 +14,15 @@ use Rattle.bitset.specs.Words.{value}
 use Rattle.bitset.proofs.Laws.Words.{Below}
 use Rattle.bitset.proofs.Laws.Bytes.{packed-lt}
 use Rattle.bitset.proofs.Laws.Sums.{ones-insert}
-use Rattle.deduction.specs.Elimination.{Row, Reduced, Knowledge, reduce, addRow, learnAs}
+use Rattle.deduction.specs.Elimination.{Row, Reduced, Knowledge, reduce, addRow, nothing, learnAs}
 use Rattle.knowledge.specs.Rows.{rowAt, rowsOf, SameOutside}
 use Rattle.knowledge.specs.State.{stateOf, Room}
 use Rattle.knowledge.proofs.Laws.Rows.{length-rowsOf, rowsOf-more, rowsOf-kept}
+
+-- an empty set and no row are the state in which nothing is known
+pub state-none : (known ws : List ℕ) → value known ≡ 0 → stateOf known ws 0 ≡ nothing
+unfolding nothing rowsOf
+state-none known ws p = λ i. record { known = p i; rows = [] }
 
 -- an entry that isn't a member is inserted by a sum
 pub insert-new : (s e : ℕ) → member s e ≡ false → bitXor s (single e) ≡ insert s e
@@ -40,23 +45,23 @@ learn-new k e v {x} h p q =
     ∙ ap (λ (b : Bool). made (cond b (k .rows) (k .rows ++ (record { vector = x .remainder; uses = bitXor (x .used) (single e) } ∷ [])))) q
   where
     made : List Row → Knowledge
-    made ys = record { known = insert (k .known) e; rows = ys }
+    made rs = record { known = insert (k .known) e; rows = rs }
 
-module _ (known : List ℕ) (rs : List (List ℕ)) (len e v : ℕ) (x : Reduced) (new : member (value known) e ≡ false) (p : x ≡ reduce (rowsOf rs len) v)
+module _ (known ws : List ℕ) (len e v : ℕ) (x : Reduced) (new : member (value known) e ≡ false) (p : x ≡ reduce (rowsOf ws len) v)
     (more : List ℕ) (q : value more ≡ insert (value known) e) where
   -- the state after learning a sum of known ones: no row is added
-  pub state-sum : eqb (x .remainder) 0 ≡ true → stateOf more rs len ≡ learnAs (stateOf known rs len) e v
-  state-sum z = ap (λ (n : ℕ). record { known = n; rows = rowsOf rs len }) q ∙ sym (learn-new (stateOf known rs len) e v new p z)
+  pub state-sum : eqb (x .remainder) 0 ≡ true → stateOf more ws len ≡ learnAs (stateOf known ws len) e v
+  state-sum z = ap (λ (n : ℕ). record { known = n; rows = rowsOf ws len }) q ∙ sym (learn-new (stateOf known ws len) e v new p z)
 
   -- and after learning another entry: its row is stored behind the others
-  pub state-row : eqb (x .remainder) 0 ≡ false → (vs : List (List ℕ)) → rowAt vs len ≡ record { vector = x .remainder; uses = bitXor (x .used) (single e) }
-      → SameOutside (2 * len) (2 * (len + 1)) rs vs → stateOf more vs (len + 1) ≡ learnAs (stateOf known rs len) e v
+  pub state-row : eqb (x .remainder) 0 ≡ false → (vs : List ℕ) → rowAt vs len ≡ record { vector = x .remainder; uses = bitXor (x .used) (single e) }
+      → SameOutside (8 * len) (8 * (len + 1)) ws vs → stateOf more vs (len + 1) ≡ learnAs (stateOf known ws len) e v
   state-row z vs r kept =
-      ap₂ (λ (n : ℕ) (ys : List Row). made n ys) q (rowsOf-more vs len ∙ ap₂ (λ (ys : List Row) (y : Row). ys ++ (y ∷ [])) (rowsOf-kept len (omega arith) kept) r)
-      ∙ sym (learn-new (stateOf known rs len) e v new p z)
+      ap₂ (λ (n : ℕ) (rs : List Row). made n rs) q (rowsOf-more vs len ∙ ap₂ (λ (rs : List Row) (y : Row). rs ++ (y ∷ [])) (rowsOf-kept len (omega arith) kept) r)
+      ∙ sym (learn-new (stateOf known ws len) e v new p z)
     where
       made : ℕ → List Row → Knowledge
-      made n ys = record { known = n; rows = ys }
+      made n rs = record { known = n; rows = rs }
 
 -- a set of four words has at most 256 members
 pub ones-words : (ws : List ℕ) → length ws ≡ 4 → Below 64 ws → ones (value ws) ≤ 256
@@ -91,11 +96,14 @@ learn-rows k e v = go (member (k .known) e) (eqb (reduce (k .rows) v .remainder)
     go false false = inr (row, refl)
 
 -- so their number is the same, or one more
-pub learn-len : (known : List ℕ) (rs : List (List ℕ)) (len e v : ℕ) (more : List ℕ) (vs : List (List ℕ)) (next : ℕ) → stateOf more vs next ≡ learnAs (stateOf known rs len) e v → (next ≡ len) ⊎ (next ≡ len + 1)
-learn-len known rs len e v more vs next p = elim (learn-rows (stateOf known rs len) e v) [ inl q ↦ inl (counted q ∙ length-rowsOf rs len) | inr r ↦ inr (counted (r .1) ∙ one-more (r .0)) ]
+pub learn-len : (known ws : List ℕ) (len e v : ℕ) (more vs : List ℕ) (next : ℕ) → stateOf more vs next ≡ learnAs (stateOf known ws len) e v → (next ≡ len) ⊎ (next ≡ len + 1)
+learn-len known ws len e v more vs next p = elim (learn-rows (stateOf known ws len) e v) [ inl q ↦ inl (counted q ∙ length-rowsOf ws len) | inr r ↦ inr (counted (r .1) ∙ one-more (r .0)) ]
   where
-    counted : {ys : List Row} → learnAs (stateOf known rs len) e v .rows ≡ ys → next ≡ length ys
+    counted : {rs : List Row} → learnAs (stateOf known ws len) e v .rows ≡ rs → next ≡ length rs
     counted q = sym (length-rowsOf vs next) ∙ ap length (ap (λ (k : Knowledge). k .rows) p ∙ q)
 
-    one-more : (r : Row) → length (rowsOf rs len ++ (r ∷ [])) ≡ len + 1
-    one-more r = length-append (rowsOf rs len) (r ∷ []) ∙ ap (λ (n : ℕ). n + 1) (length-rowsOf rs len)
+    one-more : (r : Row) → length (rowsOf ws len ++ (r ∷ [])) ≡ len + 1
+    one-more r = length-append (rowsOf ws len) (r ∷ []) ∙ ap (λ (n : ℕ). n + 1) (length-rowsOf ws len)
+
+pub learn-step : (known ws : List ℕ) (len e v : ℕ) (more vs : List ℕ) (next : ℕ) → stateOf more vs next ≡ learnAs (stateOf known ws len) e v → (len ≤ next) × (next ≤ len + 1)
+learn-step known ws len e v more vs next p = elim (learn-len known ws len e v more vs next p) [ inl q ↦ (omega arith, omega arith) | inr q ↦ (omega arith, omega arith) ]

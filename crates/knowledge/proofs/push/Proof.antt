@@ -1,45 +1,29 @@
--- `knowledge::push` meets its contract: two stores of a set.
-use native.Mathlib.Omega.{arith}
+-- `knowledge::push` meets its contract: two stores of four words.
 use borrow.Author.Needs.{needs}
-use denote.Ref.{now}
 use Rattle.knowledge.proofs.Laws.Rows.{row-stored, row-kept}
 use Rattle.knowledge.proofs.push.Statement.{statement}
 use Rattle.knowledge.proofs.push.Tie as tie
 
-mul-vector : tie.Need-mul-vector
-mul-vector c = search needs
+mul-put : tie.Need-mul-put
+mul-put c = search needs
 
-mul-vector-2 : tie.Need-mul-vector-2
-mul-vector-2 c = search needs
+put-requires : tie.Need-put-requires
+put-requires c κs = search needs
 
-element-set-from-vector : tie.Need-element-set-from-vector
-element-set-from-vector c = search needs
+mul-put-2 : tie.Need-mul-put-2
+mul-put-2 c = search needs
 
-mul-uses : tie.Need-mul-uses
-mul-uses c = search needs
+add-put : tie.Need-add-put
+add-put c = search needs
 
-add-uses : tie.Need-add-uses
-add-uses c = search needs
-
-mul-uses-2 : tie.Need-mul-uses-2
-mul-uses-2 c = search needs
-
-element-set-from-uses : tie.Need-element-set-from-uses
-element-set-from-uses c = search needs
+put-requires-2 : tie.Need-put-requires-2
+put-requires-2 c κs = search needs
 
 returns : tie.Need-returns
-returns c = let rs = now (c .args .rows) in
-    (row-stored (c .args .at) rs (c .args .vector) (c .args .uses) (omega arith), row-kept (c .args .at) rs (c .args .vector) (c .args .uses))
+returns c = let at = c .before .before .before .before .args .at in
+    let p = c .before .before .put .ensures in
+    let q = c .put2 .ensures in
+    (row-stored at (p .1) (q .1) (p .0) (q .0), row-kept at (p .1) (q .1))
 
 pub push-spec : {M : Type 1} → statement M
-push-spec =
-    tie.close
-    (tie.spec
-    mul-vector
-    mul-vector-2
-    element-set-from-vector
-    mul-uses
-    add-uses
-    mul-uses-2
-    element-set-from-uses
-    returns)
+push-spec = tie.close (tie.spec mul-put put-requires mul-put-2 add-put put-requires-2 returns)

@@ -25,12 +25,12 @@ use Rattle.verdict.specs.Answer.{outcomeOf}
 use Rattle.verdict.specs.Start.{startHeads}
 use Rattle.verdict.specs.Inner.{Decided}
 
-module _ (s : List ℕ) (cut budget : ℕ) (known : List ℕ) (rows : List (List ℕ)) (len : ℕ) (state : stateOf known rows len ≡ knowledge (entryAt s) (startHeads s cut)) where
+module _ (s : List ℕ) (cut budget : ℕ) (known rows : List ℕ) (len : ℕ) (state : stateOf known rows len ≡ knowledge (entryAt s) (startHeads s cut)) where
   ends : endOf s budget known rows len ≡ asEnded (entryAt s) (outcomeOf s cut budget)
   unfolding outcomeOf
   ends = ap (machine (entryAt s) (countOf s) (goalOf s) budget) state ∙ machine-run (entryAt s) (countOf s) (goalOf s) budget (startHeads s cut)
 
-  pub decided : (remainders : List (List ℕ)) (out : List ℕ) (r : program.Ended) (rows′ remainders′ : List (List ℕ)) (out′ out″ : List ℕ)
+  pub decided : (remainders : List (List ℕ)) (out : List ℕ) (r : program.Ended) (rows′ : List ℕ) (remainders′ : List (List ℕ)) (out′ out″ : List ℕ)
       → Ran s known rows len remainders budget out r rows′ remainders′ out′ → 32 ≤ length out
       → out″ ≡ cond (leb 32 (length out′)) (bytesOf 32 (value (r .known)) ++ drop 32 out′) out′ → Decided s cut budget out out″ r
   decided remainders out r rows′ remainders′ out′ out″ ran space written =

@@ -5,7 +5,6 @@ use Prim.Native.Nat.{ℕ, _+_, _<_}
 use native.Mathlib.Nat.{le-trans, lt-of-lt-of-le, lt-of-le-of-lt, le-of-eq}
 use native.Mathlib.Numerals.{add-one}
 use lib.ListN.{getD}
-use Rattle.bitset.specs.Words.{value}
 use Rattle.deduction.specs.Standard.{setAt, repAt}
 use Rattle.deduction.specs.Elimination.{Knowledge, learn, learnAs, learnAll, nothing}
 use Rattle.deduction.specs.Run.{knowledge}
@@ -14,7 +13,6 @@ use Rattle.deduction.proofs.Standard.{rep-le}
 use Rattle.dag.specs.Sheet.{countOf, traceAt, listed}
 use Rattle.dag.specs.Record.{entryAt}
 use Rattle.dag.proofs.Laws.Good.{good}
-use Rattle.knowledge.specs.Rows.{rowsOf}
 use Rattle.knowledge.specs.State.{stateOf}
 use Rattle.verdict.specs.Start.{startHeads}
 use Rattle.verdict.specs.Inner.{Heard}
@@ -24,12 +22,12 @@ unfolding listed
 start-more s k = ap (λ (n : ℕ). map (repAt (entryAt s)) (listed (traceAt s) n)) (add-one k) ∙ map-append (repAt (entryAt s)) (listed (traceAt s) k) (traceAt s k ∷ [])
 
 -- before the first message nothing is known
-pub hear-none : (s known : List ℕ) (rows : List (List ℕ)) → value known ≡ 0 → stateOf known rows 0 ≡ knowledge (entryAt s) (startHeads s 0)
-unfolding knowledge learnAll nothing listed rowsOf
-hear-none s known rows p = λ i. record { known = p i; rows = [] }
+pub hear-none : (s known rows : List ℕ) (len : ℕ) → stateOf known rows len ≡ nothing → stateOf known rows len ≡ knowledge (entryAt s) (startHeads s 0)
+unfolding knowledge learnAll listed
+hear-none s known rows len p = p
 
 -- one message more
-pub hear-more : (s : List ℕ) (k : ℕ) (known : List ℕ) (rows : List (List ℕ)) (len h v : ℕ) (more : List ℕ) (rows′ : List (List ℕ)) (len′ : ℕ) → stateOf known rows len ≡ knowledge (entryAt s) (startHeads s k)
+pub hear-more : (s : List ℕ) (k : ℕ) (known rows : List ℕ) (len h v : ℕ) (more rows′ : List ℕ) (len′ : ℕ) → stateOf known rows len ≡ knowledge (entryAt s) (startHeads s k)
     → h ≡ repAt (entryAt s) (traceAt s k) → v ≡ setAt (entryAt s) h → stateOf more rows′ len′ ≡ learnAs (stateOf known rows len) h v
     → stateOf more rows′ len′ ≡ knowledge (entryAt s) (startHeads s (k + 1))
 unfolding knowledge
@@ -38,7 +36,7 @@ hear-more s k known rows len h v more rows′ len′ before head set after =
     ∙ sym (learnAll-more (setAt (entryAt s)) nothing (startHeads s k) (repAt (entryAt s) (traceAt s k))) ∙ ap (knowledge (entryAt s)) (sym (start-more s k))
 
 -- the head of message k, as the table has it
-module _ {s : List ℕ} {cut : ℕ} {sets : List (List ℕ)} {reps : List ℕ} {rows remainders : List (List ℕ)} (r : Heard s cut sets reps rows remainders) (k : ℕ) (h : k < cut) where
+module _ {s : List ℕ} {cut : ℕ} {sets : List (List ℕ)} {reps : List ℕ} {remainders : List (List ℕ)} (r : Heard s cut sets reps remainders) (k : ℕ) (h : k < cut) where
   listed-below : traceAt s k < countOf s
   listed-below = good s (r .good) .listed k (le-trans h (r .within))
 

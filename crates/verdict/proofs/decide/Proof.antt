@@ -11,27 +11,29 @@ tables-requires : tie.Need-tables-requires
 tables-requires c κs = (c .before .before .before .before .before .pre .0, record { key = refl; set = refl; rep = refl })
 
 hear-requires : tie.Need-hear-requires
-hear-requires c κs = let s = c .before .before .before .before .before .before .before .before .before .before in
-    let t = c .before .before .before .before .tables .ensures in
+hear-requires c κs = let t = c .before .before .before in
+    let s = t .before .before .before .before .before .before in
+    let e = t .tables .ensures in
     record {
       good = s .pre .0;
       within = s .pre .1;
-      set = t .right .set;
-      rep = t .right .rep;
-      places = refl;
-      lines = t .sized .set;
-      fresh = t .right .set;
+      set = e .right .set;
+      rep = e .right .rep;
+      lines = e .sized .set;
+      fresh = e .right .set;
     }
 
 run-requires : tie.Need-run-requires
-run-requires c κs = let s = c .before .before .before .before .before .before .before .before .before .before .before .before .before .before .before .before .before .before in
-    let t = c .before .before .before .before .before .before .before .before .before .before .before .before .tables .ensures in
-    let h = c .before .before .before .before .before .before .before .hear .ensures in
+run-requires c κs = let m = c .before .before .before .before .before .before .before .before in
+    let t = m .before .before .before .before in
+    let s = t .before .before .before .before .before .before in
+    let e = t .tables .ensures in
+    let h = m .hear .ensures in
     record {
       good = s .pre .0;
-      right = t .right;
-      sized = t .sized;
-      places = h .1 .1 .0 .0;
+      right = e .right;
+      sized = e .sized;
+      words = h .1 .1 .0 .0;
       lines = h .1 .1 .0 .1;
       room = h .1 .0;
       cache = h .1 .1 .1;
@@ -46,10 +48,13 @@ same-length : tie.Need-same-length
 same-length c = search needs
 
 returns : tie.Need-returns
-returns c = let s = c .before .before .before .before .before .before .before .before .before .before .before .before .before .before .before .before .before .before .before .before .before .before .before .before .before .before in
-    let h = c .before .before .before .before .before .before .before .before .before .before .before .before .before .before .before .hear in
-    decided (now (s .args .s)) (s .args .cut) (s .args .budget) (h .result .known) (h .last .1 .1 .1 .1 .0) (h .result .len) (h .ensures .0)
-    (h .last .1 .1 .1 .1 .1 .0) (now (s .args .out)) (c .before .before .before .before .before .before .before .run .result) _ _ _ (c .before .before .write .last .1 .0) (c .before .before .before .before .before .before .before .run .ensures) (omega (arith, s .pre .3)) (c .before .before .write .ensures .1)
+returns c = let r = c .before .before .before .before .before .before .before in
+    let m = r .before .before .before .before .before .before .before .before .before in
+    let s = m .before .before .before .before .before .before .before .before .before .before in
+    let h = m .hear in
+    let w = c .before .before .write in
+    decided (now (s .args .s)) (s .args .cut) (s .args .budget) (h .result .known) (h .result .rows) (h .result .len) (h .ensures .0)
+    (h .last .1 .1 .1 .1 .0) (now (s .args .out)) (r .run .result) _ _ _ (w .last .1 .0) (r .run .ensures) (omega (arith, s .pre .3)) (w .ensures .1)
 
 pub decide-spec : {M : Type 1} → statement M
 decide-spec =

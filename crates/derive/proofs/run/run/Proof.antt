@@ -177,7 +177,7 @@ part-make-end c = search needs
 make-requires : tie.Need-make-requires Inv-loop μ-loop
 make-requires c κs = let a = c .before .before .before .before .before .before .before .before .before in
     let s = c .before .before .before .before .before .before .before .before .before .before .before .before .before .before .before in
-    (a .loop .inv .3 .kept .size ∙ s .pre .places, a .loop .inv .3 .others .size ∙ s .pre .lines, few a, a .loop .inv .4, a .loop .inv .3 .room, part-room (a .loop .out) (32 + 40 * a .loop .made) 40 (next-place (c .before .before .before)))
+    (a .loop .inv .3 .kept .size ∙ s .pre .words, a .loop .inv .3 .others .size ∙ s .pre .lines, few a, a .loop .inv .4, a .loop .inv .3 .room, part-room (a .loop .out) (32 + 40 * a .loop .made) 40 (next-place (c .before .before .before)))
 
 add-made : tie.Need-add-made Inv-loop μ-loop
 add-made c = omega (arith, c .before .before .before .before .before .before .before .before .before .before .before .before .before .loop .inv .3 .within, c .before .before .before .before .before .before .before .before .before .before .before .before .before .loop .inv .2 .limit)
