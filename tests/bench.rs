@@ -1,5 +1,6 @@
 // The library beside plain Rust with the same algorithm, on the worst sheets and on random ones: interleaved in one run, the median of many
-// calls each, and the exponent by which the time grows with the number of entries. Not part of the gate: it measures, and judges nothing.
+// calls each, and the exponent by which the time grows with the number of entries. Plain Rust is measured in two forms: a heard message takes
+// the state by value and hands it back, as in the library, or the state is lent. Not part of the gate: it measures, and judges nothing.
 
 #[allow(dead_code)]
 mod sheets;
@@ -26,23 +27,26 @@ fn median(mut times: Vec<f64>) -> f64 {
     times[times.len() / 2]
 }
 
-// The answer, and the microseconds of the library and of plain Rust.
-fn measure(s: &[u8], cut: u32) -> (u32, f64, f64) {
-    let mut answer = 0;
-    let mut out = vec![0u8; 32 + 40 * 256];
-    let mut again = out.clone();
-    let (mut ours, mut theirs) = (vec![], vec![]);
+type Call = fn(&[u8], u32, u32, &mut [u8]) -> u32;
+
+// The answer, and the microseconds of the library and of plain Rust by value and lent.
+fn measure(s: &[u8], cut: u32) -> (u32, [f64; 3]) {
+    let calls: [Call; 3] = [library, plain::verdict_by_value, plain::verdict];
+    let mut first = (0, vec![0u8; 32 + 40 * 256]);
+    let mut out = first.1.clone();
+    let mut times = [vec![], vec![], vec![]];
     for _ in 0..200 {
-        let begin = Instant::now();
-        let a = library(s, cut, 256, &mut out);
-        ours.push(begin.elapsed().as_secs_f64());
-        let begin = Instant::now();
-        let b = plain::verdict(s, cut, 256, &mut again);
-        theirs.push(begin.elapsed().as_secs_f64());
-        assert_eq!((a, &out), (b, &again), "the library and plain Rust differ");
-        answer = a;
+        for (i, call) in calls.iter().enumerate() {
+            let begin = Instant::now();
+            let answer = call(s, cut, 256, &mut out);
+            times[i].push(begin.elapsed().as_secs_f64() * 1e6);
+            if i == 0 {
+                first = (answer, out.clone());
+            }
+            assert_eq!((answer, &out), (first.0, &first.1), "the library and plain Rust differ");
+        }
     }
-    (answer, median(ours) * 1e6, median(theirs) * 1e6)
+    (first.0, times.map(median))
 }
 
 // The program's milliseconds from its start to its end, the sheet on its standard input.
@@ -78,14 +82,15 @@ fn card(name: &str, (entries, heard, goal): Parts) {
 fn main() {
     let kinds: [(&str, fn(usize) -> Parts); 6] =
         [("joins", kinds::joins), ("sums", kinds::sums), ("seals", kinds::seals), ("mixed", kinds::mixed), ("stuck", kinds::stuck), ("random", kinds::random)];
-    println!("sheet       n   library us   plain us   ratio   verdict and rungs");
+    println!("                              plain Rust, us            ratio to");
+    println!("sheet       n   library us   by value       lent   by value   lent   verdict and rungs");
     for (name, make) in kinds {
         let mut times = vec![];
         for n in [32, 64, 128, 256] {
             let (entries, heard, goal) = make(n);
-            let (answer, ours, theirs) = measure(&sheet(&entries, &heard, goal), heard.len() as u32);
+            let (answer, [ours, by_value, lent]) = measure(&sheet(&entries, &heard, goal), heard.len() as u32);
             let verdict = if answer < 2000 { "reached" } else { "out of reach" };
-            println!("{name:8} {n:4} {ours:12.1} {theirs:10.1} {:7.2}   {verdict} {}", ours / theirs, answer % 1000);
+            println!("{name:8} {n:4} {ours:12.1} {by_value:10.1} {lent:10.1} {:10.2} {:6.2}   {verdict} {}", ours / by_value, ours / lent, answer % 1000);
             times.push(ours);
         }
         println!("{name:8} grows with n to the power {:.2} from 64 to 256", (times[3] / times[1]).ln() / 4f64.ln());

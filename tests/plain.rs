@@ -1,5 +1,8 @@
 // The verdict in plain Rust, by the library's algorithm: tables of keys, sets and representatives, a basis with kept remainders, and a least
-// number over all steps that follow. For the benchmark; the tests compare it with the library too.
+// number over all steps that follow. For the benchmark; the tests compare it with the library too. A message is heard in one of two forms:
+// the state is lent, or it is taken by value and handed back, as the library does.
+
+#![allow(dead_code)] // the tests use one form, the benchmark both
 
 const NO_STEP: u32 = 1 << 24;
 
@@ -66,15 +69,19 @@ fn tables(s: &[u8]) -> Tables {
     t
 }
 
+// What is known, with its basis.
 struct State {
     known: Set,
     vectors: [Set; 256],
     uses: [Set; 256],
     len: usize,
-    remainders: [Set; 256],
 }
 
 impl State {
+    fn new() -> State {
+        State { known: [0; 4], vectors: [[0; 4]; 256], uses: [[0; 4]; 256], len: 0 }
+    }
+
     fn reduce(&self, set: &Set) -> (Set, Set) {
         let (mut v, mut used) = (*set, [0; 4]);
         for i in 0..self.len {
@@ -86,7 +93,7 @@ impl State {
         (v, used)
     }
 
-    fn gain(&mut self, n: usize, e: u8, set: &Set) {
+    fn learn(&mut self, e: u8, set: &Set) {
         if has(&self.known, e) {
             return;
         }
@@ -98,8 +105,21 @@ impl State {
         self.vectors[self.len] = v;
         self.uses[self.len] = add(&used, &single(e));
         self.len += 1;
+    }
+
+    fn hear(mut self, e: u8, set: &Set) -> State {
+        self.learn(e, set);
+        self
+    }
+
+    // Takes a row that was added since off the remainders.
+    fn sweep_added(&self, before: usize, remainders: &mut [Set]) {
+        if self.len == before {
+            return;
+        }
+        let v = self.vectors[before];
         let pivot = leading(&v);
-        for r in &mut self.remainders[..n] {
+        for r in remainders {
             if has(r, pivot) {
                 *r = add(r, &v);
             }
@@ -111,7 +131,7 @@ fn number(head: u8, rule: u32, first: u8) -> u32 {
     (head as u32) * 65536 + rule * 256 + first as u32
 }
 
-fn next(t: &Tables, s: &State) -> u32 {
+fn next(t: &Tables, s: &State, remainders: &[Set; 256]) -> u32 {
     let mut best = NO_STEP;
     for i in 0..t.n {
         if t.reps[i] as usize != i {
@@ -130,7 +150,7 @@ fn next(t: &Tables, s: &State) -> u32 {
             number(e, 4, l)
         } else if kind == 3 && has(&s.known, l) && has(&s.known, r) {
             number(e, 5, l)
-        } else if s.remainders[i] == [0; 4] {
+        } else if remainders[i] == [0; 4] {
             number(e, 6, 0)
         } else {
             NO_STEP
@@ -146,7 +166,43 @@ fn put_set(out: &mut [u8], set: &Set) {
     }
 }
 
-pub fn verdict(sheet: &[u8], cut: u32, budget: u32, out: &mut [u8]) -> u32 {
+fn put_rung(out: &mut [u8], t: &Tables, s: &State, x: u32) {
+    let (head, rule, first) = ((x >> 16) as u8, x >> 8 & 255, x as u8);
+    let (first, second, set) = match rule {
+        1 | 2 => (first as u16, 65535, [0; 4]),
+        3 => (first as u16, (t.keys[first as usize] % 256) as u16, [0; 4]),
+        4 | 5 => (first as u16, (t.keys[head as usize] % 256) as u16, [0; 4]),
+        _ => (65535, 65535, s.reduce(&t.sets[head as usize]).1),
+    };
+    for (i, n) in [head as u16, rule as u16, first, second].iter().enumerate() {
+        out[2 * i..2 * i + 2].copy_from_slice(&n.to_be_bytes());
+    }
+    put_set(&mut out[8..40], &set);
+}
+
+// The run from a state: the verdict's thousand and the number of rungs.
+fn run(t: &Tables, s: &mut State, remainders: &mut [Set; 256], goal: u8, budget: u32, out: &mut [u8]) -> u32 {
+    let mut made = 0;
+    loop {
+        if has(&s.known, goal) {
+            return 1000 + made;
+        }
+        let x = next(t, s, remainders);
+        if x == NO_STEP {
+            return 2000 + made;
+        }
+        if made == budget {
+            return 3000 + made;
+        }
+        put_rung(&mut out[32 + 40 * made as usize..], t, s, x);
+        let (before, head) = (s.len, (x >> 16) as u8);
+        s.learn(head, &t.sets[head as usize]);
+        s.sweep_added(before, &mut remainders[..t.n]);
+        made += 1;
+    }
+}
+
+fn judge<const BY_VALUE: bool>(sheet: &[u8], cut: u32, budget: u32, out: &mut [u8]) -> u32 {
     let refused = super::sheets::refusal(sheet);
     if refused != 0 {
         return refused;
@@ -162,39 +218,27 @@ pub fn verdict(sheet: &[u8], cut: u32, budget: u32, out: &mut [u8]) -> u32 {
         return 10;
     }
     let t = tables(sheet);
-    let mut s = State { known: [0; 4], vectors: [[0; 4]; 256], uses: [[0; 4]; 256], len: 0, remainders: t.sets };
+    let (mut s, mut remainders) = (State::new(), t.sets);
     for k in 0..cut as usize {
-        let e = t.reps[at(10 + 4 * t.n + 2 * k)];
-        s.gain(t.n, e, &t.sets[e as usize]);
+        let (before, e) = (s.len, t.reps[at(10 + 4 * t.n + 2 * k)]);
+        if BY_VALUE {
+            s = s.hear(e, &t.sets[e as usize]);
+        } else {
+            s.learn(e, &t.sets[e as usize]);
+        }
+        s.sweep_added(before, &mut remainders[..t.n]);
     }
-    let goal = t.reps[at(8)];
-    let mut made = 0;
-    let verdict = loop {
-        if has(&s.known, goal) {
-            break 1000;
-        }
-        let x = next(&t, &s);
-        if x == NO_STEP {
-            break 2000;
-        }
-        if made == budget {
-            break 3000;
-        }
-        let (head, rule, first) = ((x >> 16) as u8, x >> 8 & 255, x as u8);
-        let (first, second, set) = match rule {
-            1 | 2 => (first as u16, 65535, [0; 4]),
-            3 => (first as u16, (t.keys[first as usize] % 256) as u16, [0; 4]),
-            4 | 5 => (first as u16, (t.keys[head as usize] % 256) as u16, [0; 4]),
-            _ => (65535, 65535, s.reduce(&t.sets[head as usize]).1),
-        };
-        let rung = &mut out[32 + 40 * made as usize..];
-        for (i, n) in [head as u16, rule as u16, first, second].iter().enumerate() {
-            rung[2 * i..2 * i + 2].copy_from_slice(&n.to_be_bytes());
-        }
-        put_set(&mut rung[8..40], &set);
-        s.gain(t.n, head, &t.sets[head as usize]);
-        made += 1;
-    };
+    let answer = run(&t, &mut s, &mut remainders, t.reps[at(8)], budget, out);
     put_set(&mut out[..32], &s.known);
-    verdict + made
+    answer
+}
+
+// The state is lent to each message heard.
+pub fn verdict(sheet: &[u8], cut: u32, budget: u32, out: &mut [u8]) -> u32 {
+    judge::<false>(sheet, cut, budget, out)
+}
+
+// The state is taken by each message heard, and handed back.
+pub fn verdict_by_value(sheet: &[u8], cut: u32, budget: u32, out: &mut [u8]) -> u32 {
+    judge::<true>(sheet, cut, budget, out)
 }

@@ -30,7 +30,7 @@ pub enum Answer {
     Exhausted(u16),
 }
 
-// Hears the messages before the cut, in order, each as its representative.
+// Hears the messages before the cut, in order, each as its representative. A known one changes nothing, so the state isn't handed over for it.
 fn hear(
     s: &[u8],
     cut: u16,
@@ -49,11 +49,13 @@ fn hear(
     let mut k: u16 = 0;
     while k < cut {
         let e = reps[sheet::trace_at(s, k) as usize];
-        let before = state.len;
-        let more = state.hear(e, sets[e as usize]);
-        state = more;
-        let after = state.len;
-        knowledge::sweep_added(remainders, n, &state.rows, before, after);
+        let known = state.known;
+        if !bitset::member(known, e) {
+            let before = state.len;
+            state = state.hear(e, sets[e as usize]);
+            let after = state.len;
+            knowledge::sweep_added(remainders, n, &state.rows, before, after);
+        }
         k += 1;
     }
     state

@@ -1,6 +1,6 @@
 -- `knowledge::gain` meets its contract: the rows behind the first ones leave the remainders as they were, and a row that was added is swept.
 use mathlib.Core.Path.{_∙_}
-use Prim.Native.Nat.{ℕ, _*_, _≤_}
+use Prim.Native.Nat.{_*_, _≤_}
 use native.Mathlib.Nat.{le-refl}
 use native.Mathlib.Omega.{arith}
 use mir.Syntax.{w64}

@@ -1,10 +1,13 @@
--- The heard messages learnt one by one. Assumes nothing.
-use mathlib.Core.Path.{_≡_, sym, ap, ap₂, _∙_}
+-- The heard messages learnt one by one. Defined: `Held`, what holds after some of them. Assumes nothing.
+use mathlib.Core.Path.{_≡_, sym, ap, ap₂, _∙_, subst}
+use mathlib.Core.Bool.{true}
 use mathlib.Core.List.{List, [], _∷_, _++_, map, map-append}
-use Prim.Native.Nat.{ℕ, _+_, _<_}
-use native.Mathlib.Nat.{le-trans, lt-of-lt-of-le, lt-of-le-of-lt, le-of-eq}
+use Prim.Native.Nat.{ℕ, _+_, _*_, _<_}
+use native.Mathlib.Nat.{le-refl, le-trans, lt-of-lt-of-le, lt-of-le-of-lt, le-of-eq}
 use native.Mathlib.Numerals.{add-one}
-use lib.ListN.{getD}
+use lib.ListN.{length, getD}
+use Rattle.bitset.specs.Set.{member}
+use Rattle.bitset.specs.Words.{value}
 use Rattle.deduction.specs.Standard.{setAt, repAt}
 use Rattle.deduction.specs.Elimination.{Knowledge, learn, learnAs, learnAll, nothing}
 use Rattle.deduction.specs.Run.{knowledge}
@@ -13,7 +16,11 @@ use Rattle.deduction.proofs.Standard.{rep-le}
 use Rattle.dag.specs.Sheet.{countOf, traceAt, listed}
 use Rattle.dag.specs.Record.{entryAt}
 use Rattle.dag.proofs.Laws.Good.{good}
-use Rattle.knowledge.specs.State.{stateOf}
+use Rattle.knowledge.specs.Rows.{SameOutside, Remainders}
+use Rattle.knowledge.specs.State.{stateOf, Room}
+use Rattle.knowledge.specs.declared.Knowledge as program
+use Rattle.knowledge.proofs.Laws.Learn.{learn-again}
+use Rattle.knowledge.proofs.Laws.Cache.{remainders-first, remainders-kept}
 use Rattle.verdict.specs.Start.{startHeads}
 use Rattle.verdict.specs.Inner.{Heard}
 
@@ -21,18 +28,35 @@ start-more : (s : List ℕ) (k : ℕ) → startHeads s (k + 1) ≡ startHeads s 
 unfolding listed
 start-more s k = ap (λ (n : ℕ). map (repAt (entryAt s)) (listed (traceAt s) n)) (add-one k) ∙ map-append (repAt (entryAt s)) (listed (traceAt s) k) (traceAt s k ∷ [])
 
+-- after k messages the state is what is known of them, and the table has each entry's remainder
+pub record Held (s : List ℕ) (k : ℕ) (x : program.Knowledge) (remainders : List (List ℕ)) : Type 0 where
+  pub state : stateOf (x .known) (x .rows) (x .len) ≡ knowledge (entryAt s) (startHeads s k)
+  pub room : Room (x .known) (x .len)
+  pub words : length (x .rows) ≡ 2048
+  pub lines : length remainders ≡ 256
+  pub cache : Remainders (setAt (entryAt s)) (countOf s) (x .rows) (x .len) remainders
+
+pub held-same : {s : List ℕ} {k : ℕ} {x y : program.Knowledge} {ts us : List (List ℕ)} → y ≡ x → us ≡ ts → Held s k x ts → Held s k y us
+held-same {s} {k} {x} {y} {ts} {us} p q h = subst (λ (z : program.Knowledge). Held s k z us) (sym p) (subst (Held s k x) (sym q) h)
+
 -- before the first message nothing is known
-pub hear-none : (s known rows : List ℕ) (len : ℕ) → stateOf known rows len ≡ nothing → stateOf known rows len ≡ knowledge (entryAt s) (startHeads s 0)
+pub held-none : {s : List ℕ} {cut : ℕ} {sets : List (List ℕ)} {reps : List ℕ} {ts : List (List ℕ)} → Heard s cut sets reps ts
+    → (x : program.Knowledge) → stateOf (x .known) (x .rows) (x .len) ≡ nothing → Room (x .known) (x .len) → length (x .rows) ≡ 2048 → Held s 0 x ts
 unfolding knowledge learnAll listed
-hear-none s known rows len p = p
+held-none {s} {cut} {sets} {reps} {ts} r x p room words = record {
+  state = p;
+  room = room;
+  words = words;
+  lines = r .lines;
+  cache = remainders-first (setAt (entryAt s)) (countOf s) (x .known) (x .rows) (x .len) ts p (r .fresh);
+}
 
 -- one message more
-pub hear-more : (s : List ℕ) (k : ℕ) (known rows : List ℕ) (len h v : ℕ) (more rows′ : List ℕ) (len′ : ℕ) → stateOf known rows len ≡ knowledge (entryAt s) (startHeads s k)
-    → h ≡ repAt (entryAt s) (traceAt s k) → v ≡ setAt (entryAt s) h → stateOf more rows′ len′ ≡ learnAs (stateOf known rows len) h v
-    → stateOf more rows′ len′ ≡ knowledge (entryAt s) (startHeads s (k + 1))
+hear-more : (s : List ℕ) (k : ℕ) (x : Knowledge) (h v : ℕ) → x ≡ knowledge (entryAt s) (startHeads s k)
+    → h ≡ repAt (entryAt s) (traceAt s k) → v ≡ setAt (entryAt s) h → learnAs x h v ≡ knowledge (entryAt s) (startHeads s (k + 1))
 unfolding knowledge
-hear-more s k known rows len h v more rows′ len′ before head set after =
-    after ∙ ap₂ (λ (j : Knowledge) (x : ℕ). learnAs j h x) before set ∙ ap (learn (setAt (entryAt s)) (knowledge (entryAt s) (startHeads s k))) head
+hear-more s k x h v before head set =
+    ap₂ (λ (j : Knowledge) (w : ℕ). learnAs j h w) before set ∙ ap (learn (setAt (entryAt s)) (knowledge (entryAt s) (startHeads s k))) head
     ∙ sym (learnAll-more (setAt (entryAt s)) nothing (startHeads s k) (repAt (entryAt s) (traceAt s k))) ∙ ap (knowledge (entryAt s)) (sym (start-more s k))
 
 -- the head of message k, as the table has it
@@ -51,3 +75,34 @@ module _ {s : List ℕ} {cut : ℕ} {sets : List (List ℕ)} {reps : List ℕ} {
 
   pub hear-small : {i : ℕ} → i ≡ traceAt s k → getD reps i 0 < 256
   hear-small p = lt-of-lt-of-le (hear-low p) (good s (r .good) .few)
+
+  module _ {i : ℕ} (p : i ≡ traceAt s k) (x : program.Knowledge) (ts : List (List ℕ)) (held : Held s k x ts) where
+    -- a known head changes nothing
+    pub held-again : member (value (x .known)) (getD reps i 0) ≡ true → Held s (k + 1) x ts
+    held-again known = record {
+      state =
+          learn-again (stateOf (x .known) (x .rows) (x .len)) (getD reps i 0) (value (getD sets (getD reps i 0) [])) known
+          ∙ hear-more s k (stateOf (x .known) (x .rows) (x .len)) _ _ (held .state) (hear-head p) (r .set _ (hear-low p));
+      room = held .room;
+      words = held .words;
+      lines = held .lines;
+      cache = held .cache;
+    }
+
+    -- the head learnt, and the table kept
+    pub held-more : (y : program.Knowledge) (us : List (List ℕ)) (n : ℕ) → n ≡ countOf s
+        → stateOf (y .known) (y .rows) (y .len) ≡ learnAs (stateOf (x .known) (x .rows) (x .len)) (getD reps i 0) (value (getD sets (getD reps i 0) []))
+        → Room (y .known) (y .len) → SameOutside (8 * x .len) (8 * y .len) (x .rows) (y .rows)
+        → ((f : ℕ → ℕ) → Remainders f n (y .rows) (x .len) ts → Remainders f n (y .rows) (y .len) us) → SameOutside 0 n ts us → Held s (k + 1) y us
+    held-more y us n many learnt room kept swept others = record {
+      state = learnt ∙ hear-more s k (stateOf (x .known) (x .rows) (x .len)) _ _ (held .state) (hear-head p) (r .set _ (hear-low p));
+      room = room;
+      words = kept .size ∙ held .words;
+      lines = others .size ∙ held .lines;
+      cache =
+          subst (λ (m : ℕ). Remainders f m (y .rows) (y .len) us) many
+          (swept f (subst (λ (m : ℕ). Remainders f m (y .rows) (x .len) ts) (sym many) (remainders-kept f (countOf s) (x .len) ts (le-refl (8 * x .len)) kept (held .cache))));
+    }
+      where
+        f : ℕ → ℕ
+        f = setAt (entryAt s)

@@ -1,33 +1,29 @@
 -- `verdict::hear` meets its contract. The loop's invariant: the state is the knowledge of the messages heard so far.
-use mathlib.Core.Path.{_≡_, sym, ap, _∙_, subst}
-use Prim.Native.Nat.{ℕ, _*_, _-_, _≤_, _<_}
-use native.Mathlib.Nat.{le-trans, le-of-eq, le-refl}
+use mathlib.Core.Path.{_≡_, sym, ap, _∙_}
+use mathlib.Core.Logic.{⊎-elim}
+use Prim.Native.Nat.{ℕ, _+_, _-_, _≤_, _<_}
+use native.Mathlib.Nat.{le-trans, le-of-eq}
 use native.Mathlib.Omega.{arith}
 use mir.Syntax.{w64}
 use mir.Val.{Fits}
-use lib.ListN.{length, getD}
+use lib.ListN.{getD}
 use borrow.Author.Needs.{needs}
+use borrow.Author.Tests.{not-false}
 use denote.Ref.{now}
-use Rattle.bitset.specs.Words.{value}
 use Rattle.verdict.specs.Inner.{Heard}
 use Rattle.verdict.specs.Start.{startHeads}
 use Rattle.dag.specs.Sheet.{countOf}
 use Rattle.dag.specs.Record.{entryAt}
 use Rattle.dag.proofs.Laws.Good.{good}
-use Rattle.deduction.specs.Standard.{setAt}
 use Rattle.deduction.specs.Run.{knowledge}
-use Rattle.knowledge.specs.Rows.{Remainders}
-use Rattle.knowledge.specs.State.{stateOf, Room}
-use Rattle.knowledge.proofs.Laws.Cache.{remainders-first, remainders-kept}
 use Rattle.knowledge.proofs.Laws.Learn.{learn-step, ones-words}
-use Rattle.verdict.proofs.Laws.Hearing.{hear-none, hear-more, hear-head, hear-trace, hear-low, hear-small}
+use Rattle.verdict.proofs.Laws.Hearing.{Held, held-same, held-none, held-again, held-more, hear-trace, hear-small}
 use Rattle.verdict.proofs.hear.Statement.{statement}
 use Rattle.verdict.proofs.hear.Tie as tie
 
 abbrev Inv-loop : tie.InvT-loop
 Inv-loop s cut sets reps remainders₀ n state₀ k₀ remainders state k =
-    (n ≡ countOf s) × (k ≤ cut) × Heard s cut sets reps remainders₀ × (stateOf (state .known) (state .rows) (state .len) ≡ knowledge (entryAt s) (startHeads s k)) × Room (state .known) (state .len)
-    × (length (state .rows) ≡ 2048) × (length remainders ≡ 256) × Remainders (setAt (entryAt s)) (countOf s) (state .rows) (state .len) remainders
+    (n ≡ countOf s) × (k ≤ cut) × Heard s cut sets reps remainders₀ × Held s k state remainders
 
 abbrev μ-loop : tie.MeasureT-loop
 μ-loop s cut sets reps remainders₀ n state₀ k₀ remainders state k =
@@ -46,6 +42,17 @@ rows-more c =
     let r = c .hear .result in
     le-trans (c .hear .ensures .1 .0) (ones-words (r .known) (search needs) (λ i. let f : Fits w64 (getD (r .known) i 0) = search needs in f .fits))
 
+-- one message more: heard, or known before
+more : (c : tie.Joined1 Inv-loop μ-loop) → let a = c .before .before .before .before .before .before in Held (now (a .before .before .before .before .args .s)) (a .loop .k + 1) (c .if1 .state) (c .if1 .remainders)
+more c =
+    let t = c .before .before .before .before in
+    let a = t .before .before in
+    let x = a .loop .state in
+    ⊎-elim
+    (λ w. held-same (w .8) (w .7) (held-more (a .loop .inv .2) (a .loop .k) (t .before .loop-test .taken) (t .trace-at .ensures) x (a .loop .remainders) (a .loop .inv .3) (w .2 .result) (w .6 .last .0) _ (a .loop .inv .0) (w .2 .ensures .0) (w .2 .ensures .1 .0) (w .2 .ensures .1 .1) (w .6 .ensures .0) (w .6 .ensures .1 .0)))
+    (λ w. held-same (w .2) (w .1) (held-again (a .loop .inv .2) (a .loop .k) (t .before .loop-test .taken) (t .trace-at .ensures) x (a .loop .remainders) (a .loop .inv .3) (sym (c .before .member .ensures) ∙ not-false _ (w .0 .left))))
+    (c .if1 .came)
+
 done : (c : tie.After-loop Inv-loop μ-loop) → c .before .loop .k ≡ c .before .before .before .before .before .args .cut
 done c = omega (arith, c .before .loop .inv .1)
 
@@ -59,18 +66,8 @@ new-requires : tie.Need-new-requires Inv-loop μ-loop
 new-requires c κs = search needs
 
 loop-holds : tie.Need-loop-holds Inv-loop μ-loop
-loop-holds c = let s = c .before .before .before in
-    let r = s .pre in
-    let x = c .new .result in (
-      c .before .count .ensures,
-      search needs,
-      r,
-      hear-none (now (s .args .s)) (x .known) (x .rows) (x .len) (c .new .ensures .0),
-      c .new .ensures .1,
-      search needs,
-      r .lines,
-      remainders-first (setAt (entryAt (now (s .args .s)))) (countOf (now (s .args .s))) (x .known) (x .rows) (x .len) (now (s .args .remainders)) (c .new .ensures .0) (r .fresh),
-    )
+loop-holds c = let r = c .before .before .before .pre in
+    (c .before .count .ensures, search needs, r, held-none r (c .new .result) (c .new .ensures .0) (c .new .ensures .1) (search needs))
 
 trace-at-requires : tie.Need-trace-at-requires Inv-loop μ-loop
 trace-at-requires c κs = search needs
@@ -81,59 +78,42 @@ cast-e c = search needs
 element-copy-out-e : tie.Need-element-copy-out-e Inv-loop μ-loop
 element-copy-out-e c = hear-trace (c .before .before .loop .inv .2) (c .before .before .loop .k) (c .before .loop-test .taken) (c .trace-at .ensures)
 
+member-requires : tie.Need-member-requires Inv-loop μ-loop
+member-requires c κs = search needs
+
 cast-hear : tie.Need-cast-hear Inv-loop μ-loop
-cast-hear c = omega (arith, small (c .before))
+cast-hear c = omega (arith, small (c .before .before .before .before))
 
 mul-hear : tie.Need-mul-hear Inv-loop μ-loop
-mul-hear c = omega (arith, small (c .before))
+mul-hear c = omega (arith, small (c .before .before .before .before))
 
 element-copy-out-hear : tie.Need-element-copy-out-hear Inv-loop μ-loop
-element-copy-out-hear c = small (c .before)
+element-copy-out-hear c = small (c .before .before .before .before)
 
 hear-requires : tie.Need-hear-requires Inv-loop μ-loop
-hear-requires c κs = c .before .before .before .before .loop .inv .4
+hear-requires c κs = c .before .before .before .before .before .before .before .loop .inv .3 .room
 
 sweep-added-requires : tie.Need-sweep-added-requires Inv-loop μ-loop
 sweep-added-requires c κs = let m = c .before .before .before in
-    let a = m .before .before .before .before .before in
+    let a = m .before .before .before .before .before .before .before .before in
     let x = a .loop .state in
     let r = m .hear .result in
-    let more = learn-step (x .known) (x .rows) (x .len) _ _ (r .known) (r .rows) (r .len) (m .hear .ensures .0) in
-    (a .loop .inv .6, few a, m .hear .ensures .1 .1 .size ∙ a .loop .inv .5, more .0, more .1, rows-more m)
+    let step = learn-step (x .known) (x .rows) (x .len) _ _ (r .known) (r .rows) (r .len) (m .hear .ensures .0) in
+    (a .loop .inv .3 .lines, few a, m .hear .ensures .1 .1 .size ∙ a .loop .inv .3 .words, step .0, step .1, rows-more m)
 
 add-k : tie.Need-add-k Inv-loop μ-loop
 add-k c = search needs
 
 loop-less : tie.Need-loop-less Inv-loop μ-loop
-loop-less c = omega (arith, c .before .before .before .before .before .before .before .before .loop-test .taken)
+loop-less c = omega (arith, c .before .before .before .before .before .loop-test .taken)
 
 loop-again : tie.Need-loop-again Inv-loop μ-loop
-loop-again c = let m = c .before .before .before .before in
-    let a = m .before .before .before .before .before in
-    let s = a .before .before .before .before in
-    let x = a .loop .state in
-    let r = m .hear .result in
-    let e = m .hear .ensures in
-    let w = c .sweep-added in
-    let h = a .loop .inv .2 in
-    let t = m .before .before .before .before .loop-test .taken in
-    let q = m .before .before .before .trace-at .ensures in
-    let f = setAt (entryAt (now (s .args .s))) in (
-      a .loop .inv .0,
-      omega (arith, t),
-      h,
-      hear-more (now (s .args .s)) (a .loop .k) (x .known) (x .rows) (x .len) _ _ (r .known) (r .rows) (r .len) (a .loop .inv .3) (hear-head h (a .loop .k) t q) (h .set _ (hear-low h (a .loop .k) t q)) (e .0),
-      e .1 .0,
-      e .1 .1 .size ∙ a .loop .inv .5,
-      w .ensures .1 .0 .size ∙ a .loop .inv .6,
-      subst (λ (n : ℕ). Remainders f n (r .rows) (r .len) (w .last .0)) (a .loop .inv .0)
-          (w .ensures .0 f (remainders-kept f _ (x .len) (a .loop .remainders) (le-refl (8 * x .len)) (e .1 .1) (subst (λ (n : ℕ). Remainders f n (x .rows) (x .len) (a .loop .remainders)) (sym (a .loop .inv .0)) (a .loop .inv .7)))),
-    )
+loop-again c = let a = c .before .before .before .before .before .before in (a .loop .inv .0, omega (arith, c .before .before .before .before .before .loop-test .taken), a .loop .inv .2, more c)
 
 returns : tie.Need-returns Inv-loop μ-loop
-returns c = let a = c .before in
-    let s = c .before .before .before .before .before in
-    (a .loop .inv .3 ∙ ap (λ (k : ℕ). knowledge (entryAt (now (s .args .s))) (startHeads (now (s .args .s)) k)) (done c), (a .loop .inv .4, ((a .loop .inv .5, a .loop .inv .6), a .loop .inv .7)))
+returns c = let h = c .before .loop .inv .3 in
+    let s = now (c .before .before .before .before .before .args .s) in
+    (h .state ∙ ap (λ (k : ℕ). knowledge (entryAt s) (startHeads s k)) (done c), (h .room, ((h .words, h .lines), h .cache)))
 
 pub hear-spec : {M : Type 1} → statement M
 hear-spec =
@@ -148,6 +128,7 @@ hear-spec =
     trace-at-requires
     cast-e
     element-copy-out-e
+    member-requires
     cast-hear
     mul-hear
     element-copy-out-hear
