@@ -32,21 +32,18 @@ type Call = fn(&[u8], u32, u32, &mut [u8]) -> u32;
 // The answer, and the microseconds of the library and of plain Rust by value and lent.
 fn measure(s: &[u8], cut: u32) -> (u32, [f64; 3]) {
     let calls: [Call; 3] = [library, plain::verdict_by_value, plain::verdict];
-    let mut first = (0, vec![0u8; 32 + 40 * 256]);
-    let mut out = first.1.clone();
+    let mut answers = [0; 3];
+    let mut outs = [(); 3].map(|_| vec![0u8; 32 + 40 * 256]);
     let mut times = [vec![], vec![], vec![]];
     for _ in 0..200 {
         for (i, call) in calls.iter().enumerate() {
             let begin = Instant::now();
-            let answer = call(s, cut, 256, &mut out);
+            answers[i] = call(s, cut, 256, &mut outs[i]);
             times[i].push(begin.elapsed().as_secs_f64() * 1e6);
-            if i == 0 {
-                first = (answer, out.clone());
-            }
-            assert_eq!((answer, &out), (first.0, &first.1), "the library and plain Rust differ");
         }
+        assert!((1..3).all(|i| answers[i] == answers[0] && outs[i] == outs[0]), "the library and plain Rust differ");
     }
-    (first.0, times.map(median))
+    (answers[0], times.map(median))
 }
 
 // The program's milliseconds from its start to its end, the sheet on its standard input.

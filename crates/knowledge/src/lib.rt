@@ -6,7 +6,7 @@ ghost use mathlib.Core.Bool.{cond};
 ghost use mathlib.Core.List.{[]};
 ghost use lib.Bits.{bitXor};
 ghost use lib.Dec.{eqb};
-ghost use lib.ListN.{length, getD};
+ghost use lib.ListN.{length, getD, replicate};
 ghost use Rattle.bitset.specs.Set.{member};
 ghost use Rattle.bitset.specs.Words.{value};
 ghost use Rattle.deduction.specs.Elimination.{reduce, nothing, learnAs, take-off};
@@ -148,6 +148,7 @@ impl Knowledge {
     pub fn new() -> Self
         ensures state { λ r. ⌜ stateOf (r .known) (r .rows) (r .len) ≡ nothing ⌝ }
         ensures room { λ r. ⌜ Room (r .known) (r .len) ⌝ }
+        ensures rows { λ r. ⌜ r .rows ≡ replicate 2048 0 ⌝ }
     {
         let known = bitset::empty();
         let rows = [0u64; 2048];

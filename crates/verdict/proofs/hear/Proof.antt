@@ -67,7 +67,7 @@ new-requires c κs = search needs
 
 loop-holds : tie.Need-loop-holds Inv-loop μ-loop
 loop-holds c = let r = c .before .before .before .pre in
-    (c .before .count .ensures, search needs, r, held-none r (c .new .result) (c .new .ensures .0) (c .new .ensures .1) (search needs))
+    (c .before .count .ensures, search needs, r, held-none r (c .new .result) (c .new .ensures .0) (c .new .ensures .1 .0) (search needs))
 
 trace-at-requires : tie.Need-trace-at-requires Inv-loop μ-loop
 trace-at-requires c κs = search needs

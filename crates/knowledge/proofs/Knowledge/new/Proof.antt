@@ -1,4 +1,5 @@
 -- `knowledge::Knowledge::new` meets its contract: the empty set and no row.
+use mathlib.Core.Path.{refl}
 use borrow.Author.Needs.{needs}
 use Rattle.knowledge.proofs.Laws.Learn.{state-none}
 use Rattle.knowledge.proofs.Knowledge.new.Statement.{statement}
@@ -8,7 +9,7 @@ empty-requires : tie.Need-empty-requires
 empty-requires c κs = search needs
 
 returns : tie.Need-returns
-returns c = (state-none (c .empty .result) _ (c .empty .ensures), search needs)
+returns c = (state-none (c .empty .result) _ (c .empty .ensures), (search needs, refl))
 
 pub new-spec : {M : Type 1} → statement M
 new-spec = tie.close (tie.spec empty-requires returns)
