@@ -8,7 +8,7 @@ ghost use lib.Count.{ones};
 ghost use lib.Dec.{eqb, leb};
 ghost use mathlib.Core.Bool.{cond};
 ghost use lib.ListN.{length, take, drop, getD};
-ghost use Rattle.bitset.specs.Set.{member, insert, single, leading};
+ghost use Rattle.bitset.specs.Set.{member, single, leading};
 ghost use Rattle.bitset.specs.Words.{value, bytesOf, setOf};
 
 // No entry.
@@ -56,16 +56,6 @@ pub fn sum(a: [u64; 4], b: [u64; 4]) -> [u64; 4]
     ensures { λ r. ⌜ value r ≡ bitXor (value a) (value b) ⌝ }
 {
     [a[0] ^ b[0], a[1] ^ b[1], a[2] ^ b[2], a[3] ^ b[3]]
-}
-
-// s with e.
-pub fn insert(s: [u64; 4], e: u8) -> [u64; 4]
-    ensures { λ r. ⌜ value r ≡ insert (value s) e ⌝ }
-{
-    if member(s, e) {
-        return s;
-    }
-    sum(s, singleton(e))
 }
 
 // Do a and b have the same members?

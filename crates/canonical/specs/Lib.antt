@@ -1,3 +1,2 @@
--- Reading order: an entry's key, and what the three tables hold.
-pub mod Key
-pub mod Tables
+-- Inner: an entry's key, and what the three tables hold.
+pub mod Inner

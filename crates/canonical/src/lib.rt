@@ -10,8 +10,8 @@ ghost use Rattle.deduction.specs.Standard.{least, xorAll};
 ghost use Rattle.dag.specs.Sheet.{countOf, listed};
 ghost use Rattle.dag.specs.Record.{itemCount, itemAt, decode, entryAt};
 ghost use Rattle.dag.specs.Refusal.{refusal};
-ghost use Rattle.canonical.specs.Key.{keyOf, keyKind, keyLeft, keyRight};
-ghost use Rattle.canonical.specs.Tables.{setIn, numberIn, RightLine, Right, Sized, Filled};
+ghost use Rattle.canonical.specs.Inner.Key.{keyOf, keyKind, keyLeft, keyRight};
+ghost use Rattle.canonical.specs.Inner.Tables.{setIn, numberIn, RightLine, Right, Sized, Filled};
 use dag::record;
 use dag::sheet;
 

@@ -1,7 +1,7 @@
 // What a record's bytes say.
 ghost use mathlib.Core.Path.{_≡_};
 ghost use Rattle.dag.specs.Sheet.{numberAt};
-ghost use Rattle.dag.specs.Record.{kindOf, fits, itemCount, itemAt};
+ghost use Rattle.dag.specs.Record.{kindOf, fits, itemCount};
 use crate::sheet;
 
 // The kind byte; 0 where there is none.
@@ -61,11 +61,4 @@ pub fn item_count(r: &[u8]) -> usize
         return 0;
     }
     (r.len() - 1) / 2
-}
-
-// Item j of a sum's record.
-pub fn item(r: &[u8], j: u16) -> u16
-    ensures { λ x. ⌜ x ≡ itemAt (now (r .entry)) j ⌝ }
-{
-    sheet::number_at(r, 1 + 2 * (j as usize))
 }

@@ -1,11 +1,12 @@
--- Reading order: terms and their equality, what an intruder can derive, the terms of a sheet's entries, their sets of standard
--- entries, the steps within the entries, the elimination that decides sums, the steps in their order, the run, and the replay.
+-- Reading order: terms and their equality, what an intruder can derive, the terms of a sheet's entries, their sets of standard entries and their
+-- representatives, the steps in their order, the course of the work, and the replay. Then the elimination that decides sums and the run: what the program
+-- computes, which nobody has to believe for a verdict (`run-course`, proofs/Steps/Course.antt).
 pub mod Term
 pub mod Derivation
 pub mod Entry
 pub mod Standard
-pub mod Elimination
 pub mod Step
 pub mod Course
-pub mod Run
 pub mod Replay
+pub mod Elimination
+pub mod Run

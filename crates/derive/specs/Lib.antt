@@ -1,5 +1,3 @@
--- Reading order: the search over the tables, a step as it stands in memory and in the buffer, and the run from a state.
-pub mod Search
+-- Reading order: a step as it stands in memory and in the buffer. Inner: the search over the tables, the run from a state, what a run needs and hands back.
 pub mod Bytes
-pub mod Machine
-pub mod Ran
+pub mod Inner

@@ -1,7 +1,7 @@
 // The steps of the intruder: which comes next, and the run that makes them.
-pub mod next;
+mod next;
 pub mod run;
-pub mod writer;
+mod writer;
 
 // One step (document 01: rung). A source that isn't used is 65,535.
 pub struct Step {

@@ -4,11 +4,11 @@ ghost use mathlib.Core.Path.{_≡_};
 ghost use Prim.Native.Nat.{_≤_, min};
 ghost use lib.ListN.{length};
 ghost use Rattle.bitset.specs.Words.{value};
-ghost use Rattle.knowledge.specs.Rows.{rowsOf};
+ghost use Rattle.knowledge.specs.Inner.Rows.{rowsOf};
 ghost use Rattle.derive.specs.Bytes.{stepOf};
 ghost use Rattle.deduction.specs.Run.{number};
 ghost use Rattle.deduction.specs.Step.{step};
-ghost use Rattle.derive.specs.Search.{offered, openedLeast, bothKnown, builtLeast, lineLeast, searchLeast, stepIn};
+ghost use Rattle.derive.specs.Inner.Search.{offered, openedLeast, bothKnown, builtLeast, lineLeast, searchLeast, stepIn};
 use crate::Step;
 
 // Above every step's number: nothing follows.

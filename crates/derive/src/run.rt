@@ -5,11 +5,11 @@ ghost use Prim.Native.Nat.{ℕ, _*_, _≤_, _/_, _%_};
 ghost use lib.ListN.{length, getD, drop};
 ghost use Rattle.bitset.specs.Words.{value};
 ghost use Rattle.deduction.specs.Elimination.{learnAs};
-ghost use Rattle.knowledge.specs.Rows.{rowsOf, SameOutside, Remainders};
-ghost use Rattle.knowledge.specs.State.{stateOf, Room};
+ghost use Rattle.knowledge.specs.Inner.Rows.{rowsOf, SameOutside, Remainders};
+ghost use Rattle.knowledge.specs.Inner.State.{stateOf, Room};
 ghost use Rattle.derive.specs.Bytes.{stepBytes};
-ghost use Rattle.derive.specs.Search.{stepIn};
-ghost use Rattle.derive.specs.Ran.{endAs, Ready, Ran};
+ghost use Rattle.derive.specs.Inner.Search.{stepIn};
+ghost use Rattle.derive.specs.Inner.Ran.{endAs, Ready, Ran};
 use crate::next;
 use crate::writer;
 use dag::sheet;
@@ -94,7 +94,7 @@ pub fn run(
             return end_as(Verdict::Derivable, made, have, used);
         }
         let x = next::next(keys, reps, n, have, remainders);
-        if x == 16777216 {
+        if x == next::NO_STEP {
             return end_as(Verdict::Underivable, made, have, used);
         }
         if made == budget {

@@ -1,3 +1,2 @@
--- Reading order: the rows that the words of the state are, and the state that they hold.
-pub mod Rows
-pub mod State
+-- Inner: the rows that the words of the state are, and the state that they hold.
+pub mod Inner

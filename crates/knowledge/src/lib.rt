@@ -10,8 +10,8 @@ ghost use lib.ListN.{length, getD, replicate};
 ghost use Rattle.bitset.specs.Set.{member};
 ghost use Rattle.bitset.specs.Words.{value};
 ghost use Rattle.deduction.specs.Elimination.{reduce, nothing, learnAs, take-off};
-ghost use Rattle.knowledge.specs.Rows.{wordsAt, rowAt, rowsOf, withoutRow, SameOutside, Remainders};
-ghost use Rattle.knowledge.specs.State.{stateOf, reducedOf, Room};
+ghost use Rattle.knowledge.specs.Inner.Rows.{wordsAt, rowAt, rowsOf, withoutRow, SameOutside, Remainders};
+ghost use Rattle.knowledge.specs.Inner.State.{stateOf, reducedOf, Room};
 
 // What the intruder knows: the known representatives, and a basis of rows in the order learnt. Row i is the eight words from 8 * i on: four of
 // its vector, then four of its uses, the learnt entries whose sum it is.

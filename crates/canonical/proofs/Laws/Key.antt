@@ -18,7 +18,7 @@ use Rattle.deduction.proofs.Standard.{rep-le, rep-set, rep-lowest, rep-of-set, 
 use Rattle.deduction.proofs.Standard.Least.{least-only}
 use Rattle.deduction.proofs.Standard.First.{shapeAt, first, Plain, alike-same, same-alike, first-shape, first-same, set-first}
 use Rattle.deduction.proofs.Standard.Members.{rep-first}
-use Rattle.canonical.specs.Key.{keyOf, keyAt, keyKind, keyLeft, keyRight}
+use Rattle.canonical.specs.Inner.Key.{keyOf, keyAt, keyKind, keyLeft, keyRight}
 
 -- a key that has two parts
 module _ (k a b : ℕ) (hk : k < 256) (ha : a < 256) (hb : b < 256) where

@@ -20,8 +20,8 @@ use Rattle.dag.specs.Sheet.{countOf, recordAt, listed}
 use Rattle.dag.specs.Record.{kindOf, fits, itemCount, itemAt, decode, entryAt}
 use Rattle.dag.specs.Refusal.{refusal}
 use Rattle.dag.proofs.Laws.Good.{Good, good}
-use Rattle.canonical.specs.Key.{keyOf, keyAt}
-use Rattle.canonical.specs.Tables.{setIn, numberIn, RightLine, Right}
+use Rattle.canonical.specs.Inner.Key.{keyOf, keyAt}
+use Rattle.canonical.specs.Inner.Tables.{setIn, numberIn, RightLine, Right}
 use Rattle.canonical.proofs.Laws.Key.{Narrow, key-same, key-alike, key-plain}
 use Rattle.canonical.proofs.Laws.Record.{Bytes, items-parts, parts-set, item-listed, narrow-bytes}
 

@@ -15,7 +15,7 @@ use Rattle.deduction.specs.Entry.{Entry, Zero, Atom, Pair, Enc, Sum, parts}
 use Rattle.deduction.specs.Standard.{xorAll, buildSet}
 use Rattle.dag.specs.Sheet.{numberAt, recordAt, listed, offsetAt, lengthAt}
 use Rattle.dag.specs.Record.{kindOf, fits, itemCount, itemAt, decodeAs, entryAt}
-use Rattle.canonical.specs.Key.{keyOf}
+use Rattle.canonical.specs.Inner.Key.{keyOf}
 use Rattle.canonical.proofs.Laws.Key.{Narrow}
 
 module _ (rep : ℕ → ℕ) (r : List ℕ) where

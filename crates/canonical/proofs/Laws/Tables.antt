@@ -10,8 +10,8 @@ use borrow.Author.Count.{below-more}
 use Rattle.bitset.specs.Words.{value}
 use Rattle.deduction.specs.Entry.{Entry}
 use Rattle.deduction.specs.Standard.{setAt, repAt}
-use Rattle.canonical.specs.Key.{keyAt}
-use Rattle.canonical.specs.Tables.{RightLine, Sized, Filled}
+use Rattle.canonical.specs.Inner.Key.{keyAt}
+use Rattle.canonical.specs.Inner.Tables.{RightLine, Sized, Filled}
 
 -- one table and a new element at i
 module _ {A : Type 0} (l : List A) (i : ℕ) (a d : A) where

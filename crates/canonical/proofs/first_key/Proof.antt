@@ -8,7 +8,7 @@ use borrow.Author.Tests.{eq-eqb, ne-eqb}
 use lib.Dec.{eqb}
 use borrow.Author.Needs.{needs}
 use denote.Ref.{now}
-use Rattle.canonical.specs.Tables.{numberIn}
+use Rattle.canonical.specs.Inner.Tables.{numberIn}
 use Rattle.canonical.proofs.Laws.Search.{search-found, search-none}
 use Rattle.canonical.proofs.first_key.Statement.{statement}
 use Rattle.canonical.proofs.first_key.Tie as tie

@@ -8,7 +8,7 @@ use lib.Dec.{eqb}
 use borrow.Author.Needs.{needs}
 use denote.Ref.{now}
 use Rattle.canonical.proofs.Laws.Search.{search-found, search-none}
-use Rattle.canonical.specs.Tables.{setIn}
+use Rattle.canonical.specs.Inner.Tables.{setIn}
 use Rattle.bitset.specs.Words.{value}
 use Rattle.canonical.proofs.first_set.Statement.{statement}
 use Rattle.canonical.proofs.first_set.Tie as tie

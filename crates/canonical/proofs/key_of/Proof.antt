@@ -5,7 +5,7 @@ use native.Mathlib.Omega.{arith}
 use borrow.Author.Needs.{needs}
 use denote.Ref.{now}
 use Rattle.dag.specs.Record.{kindOf}
-use Rattle.canonical.specs.Tables.{numberIn}
+use Rattle.canonical.specs.Inner.Tables.{numberIn}
 use Rattle.canonical.proofs.Laws.Record.{zero-key, sum-key, atom-key, parts-key, first-part, second-part}
 use Rattle.canonical.proofs.key_of.Statement.{statement}
 use Rattle.canonical.proofs.key_of.Tie as tie

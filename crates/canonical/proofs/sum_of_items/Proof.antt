@@ -6,7 +6,7 @@ use lib.Bits.{bitXor}
 use borrow.Author.Needs.{needs}
 use denote.Ref.{now}
 use Rattle.canonical.proofs.Laws.Items.{items-none, items-more}
-use Rattle.canonical.specs.Tables.{setIn}
+use Rattle.canonical.specs.Inner.Tables.{setIn}
 use Rattle.bitset.specs.Words.{value}
 use Rattle.deduction.specs.Standard.{xorAll}
 use Rattle.dag.specs.Sheet.{listed}

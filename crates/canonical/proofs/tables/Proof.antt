@@ -7,7 +7,7 @@ use denote.Ref.{now}
 use Rattle.dag.specs.Sheet.{countOf}
 use Rattle.dag.specs.Record.{entryAt}
 use Rattle.dag.proofs.Laws.Good.{good}
-use Rattle.canonical.specs.Tables.{Filled}
+use Rattle.canonical.specs.Inner.Tables.{Filled}
 use Rattle.canonical.proofs.Laws.Tables.{filled-none, filled-more}
 use Rattle.canonical.proofs.tables.Statement.{statement}
 use Rattle.canonical.proofs.tables.Tie as tie

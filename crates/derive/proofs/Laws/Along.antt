@@ -15,13 +15,13 @@ use Rattle.deduction.specs.Step.{Step}
 use Rattle.deduction.specs.Run as theory
 use Rattle.dag.specs.Sheet.{countOf, goalOf}
 use Rattle.dag.specs.Record.{entryAt}
-use Rattle.knowledge.specs.Rows.{SameOutside, Remainders}
-use Rattle.knowledge.specs.State.{stateOf, Room}
+use Rattle.knowledge.specs.Inner.Rows.{SameOutside, Remainders}
+use Rattle.knowledge.specs.Inner.State.{stateOf, Room}
 use Rattle.knowledge.proofs.Laws.Store.{same-refl, same-trans, same-wider}
 use Rattle.knowledge.proofs.Laws.Learn.{learn-len}
 use Rattle.derive.specs.Bytes.{stepBytes, stepsBytes}
-use Rattle.derive.specs.Machine.{Ended, stepNext, machine}
-use Rattle.derive.specs.Ran.{verdictOf, endAs, Ready, endOf, Ran}
+use Rattle.derive.specs.Inner.Machine.{Ended, stepNext, machine}
+use Rattle.derive.specs.Inner.Ran.{verdictOf, endAs, Ready, endOf, Ran}
 use Rattle.derive.specs.declared.run.Verdict.{Verdict}
 use Rattle.derive.specs.declared.run.Ended as program
 use Rattle.derive.proofs.Laws.Machine.{prepend, prepend-more, prepend-verdict, prepend-steps, prepend-final, endedAs, machine-step}

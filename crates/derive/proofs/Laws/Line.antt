@@ -14,8 +14,8 @@ use Rattle.bitset.specs.Words.{value}
 use Rattle.deduction.specs.Elimination.{Row, reduce}
 use Rattle.deduction.specs.Step.{step, unused}
 use Rattle.deduction.specs.Run.{number, noStep}
-use Rattle.canonical.specs.Key.{keyKind, keyLeft, keyRight}
-use Rattle.derive.specs.Search.{offered, openedLeast, bothKnown, builtLeast, lineLeast, searchLeast, lineStep}
+use Rattle.canonical.specs.Inner.Key.{keyKind, keyLeft, keyRight}
+use Rattle.derive.specs.Inner.Search.{offered, openedLeast, bothKnown, builtLeast, lineLeast, searchLeast, lineStep}
 
 -- a member test of a part that was read off a key
 pub part-test : {l p : ℕ} {b t : Bool} (g : ℕ) → l ≡ p → b ≡ member g l → b ≡ t → member g p ≡ t

@@ -13,7 +13,7 @@ use Rattle.deduction.specs.Elimination.{Knowledge, learn, nothing}
 use Rattle.deduction.specs.Step.{Step}
 use Rattle.deduction.specs.Run.{Verdict, derivable, underivable, exhausted, Outcome, noStep, knowledge, nextNumber, nextStep, reached, goesOn, ended, after, run}
 use Rattle.deduction.proofs.Elimination.{learnAll-more}
-use Rattle.derive.specs.Machine.{Ended, stepNext, stopped, follow, machine}
+use Rattle.derive.specs.Inner.Machine.{Ended, stepNext, stopped, follow, machine}
 
 -- steps made before
 unfoldable pub prepend : List Step → Ended → Ended

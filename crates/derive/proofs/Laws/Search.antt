@@ -24,13 +24,13 @@ use Rattle.dag.specs.Sheet.{countOf}
 use Rattle.dag.specs.Record.{entryAt}
 use Rattle.dag.specs.Refusal.{refusal}
 use Rattle.dag.proofs.Laws.Good.{good}
-use Rattle.canonical.specs.Key.{keyOf, keyAt, keyRight}
-use Rattle.canonical.specs.Tables.{Right}
+use Rattle.canonical.specs.Inner.Key.{keyOf, keyAt, keyRight}
+use Rattle.canonical.specs.Inner.Tables.{Right}
 use Rattle.canonical.proofs.Laws.Key.{Narrow, parts-kind, parts-left, parts-right, atom-kind, key-pair, key-enc}
 use Rattle.canonical.proofs.Laws.Record.{Bytes, narrow-bytes}
-use Rattle.knowledge.specs.Rows.{Remainders}
-use Rattle.knowledge.specs.State.{stateOf}
-use Rattle.derive.specs.Search.{offered, openedLeast, bothKnown, builtLeast, lineLeast, searchLeast, lineStep, stepIn}
+use Rattle.knowledge.specs.Inner.Rows.{Remainders}
+use Rattle.knowledge.specs.Inner.State.{stateOf}
+use Rattle.derive.specs.Inner.Search.{offered, openedLeast, bothKnown, builtLeast, lineLeast, searchLeast, lineStep, stepIn}
 
 -- the least of two lists in a row, and of a list chosen by a test
 least-le : (d : ℕ) (xs : List ℕ) → leastOf d xs ≤ d

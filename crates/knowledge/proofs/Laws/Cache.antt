@@ -9,8 +9,8 @@ use native.Mathlib.Omega.{arith}
 use lib.ListN.{getD}
 use Rattle.bitset.specs.Words.{value}
 use Rattle.deduction.specs.Elimination.{Row, Knowledge, reduce, reduceFrom, nothing}
-use Rattle.knowledge.specs.Rows.{rowAt, withoutRow, SameOutside, Remainders}
-use Rattle.knowledge.specs.State.{stateOf}
+use Rattle.knowledge.specs.Inner.Rows.{rowAt, withoutRow, SameOutside, Remainders}
+use Rattle.knowledge.specs.Inner.State.{stateOf}
 use Rattle.knowledge.proofs.Laws.Rows.{rowsOf-kept, remainder-next}
 
 -- where nothing is known, each set is its own remainder

@@ -15,8 +15,8 @@ use Rattle.bitset.proofs.Laws.Words.{Below}
 use Rattle.bitset.proofs.Laws.Bytes.{packed-lt}
 use Rattle.bitset.proofs.Laws.Sums.{ones-insert}
 use Rattle.deduction.specs.Elimination.{Row, Reduced, Knowledge, reduce, addRow, nothing, learnAs}
-use Rattle.knowledge.specs.Rows.{rowAt, rowsOf, SameOutside}
-use Rattle.knowledge.specs.State.{stateOf, Room}
+use Rattle.knowledge.specs.Inner.Rows.{rowAt, rowsOf, SameOutside}
+use Rattle.knowledge.specs.Inner.State.{stateOf, Room}
 use Rattle.knowledge.proofs.Laws.Rows.{length-rowsOf, rowsOf-more, rowsOf-kept}
 
 -- an empty set and no row are the state in which nothing is known

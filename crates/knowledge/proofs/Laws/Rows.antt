@@ -13,7 +13,7 @@ use Rattle.bitset.specs.Set.{member, leading}
 use Rattle.bitset.specs.Words.{value}
 use Rattle.deduction.specs.Elimination.{Row, Reduced, reduce, reduceFrom, take-off}
 use Rattle.deduction.proofs.Elimination.Reduce.{reduce-more, remainder-more}
-use Rattle.knowledge.specs.Rows.{wordsAt, rowAt, rowsOf, withoutRow, SameOutside}
+use Rattle.knowledge.specs.Inner.Rows.{wordsAt, rowAt, rowsOf, withoutRow, SameOutside}
 use Rattle.knowledge.proofs.Laws.Store.{same-wider, same-trans}
 
 pub length-rowsOf : (ws : List ℕ) (n : ℕ) → length (rowsOf ws n) ≡ n

@@ -11,7 +11,7 @@ use borrow.Author.Needs.{needs}
 use denote.Ref.{now}
 use Rattle.bitset.specs.Set.{member, insert}
 use Rattle.bitset.specs.Words.{value}
-use Rattle.knowledge.specs.State.{stateOf, reducedOf, Room}
+use Rattle.knowledge.specs.Inner.State.{stateOf, reducedOf, Room}
 use Rattle.knowledge.proofs.Laws.Store.{same-refl}
 use Rattle.knowledge.proofs.Laws.Learn.{insert-new, learn-again, state-sum, state-row, ones-words, room-more, room-place}
 use Rattle.knowledge.proofs.learn.Statement.{statement}

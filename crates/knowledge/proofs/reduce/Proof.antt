@@ -6,8 +6,8 @@ use borrow.Author.Needs.{needs}
 use denote.Ref.{now}
 use Rattle.bitset.specs.Words.{value}
 use Rattle.deduction.specs.Elimination.{Reduced, reduce, take-off}
-use Rattle.knowledge.specs.Rows.{rowAt, rowsOf}
-use Rattle.knowledge.specs.State.{reducedOf}
+use Rattle.knowledge.specs.Inner.Rows.{rowAt, rowsOf}
+use Rattle.knowledge.specs.Inner.State.{reducedOf}
 use Rattle.knowledge.proofs.Laws.Rows.{reduce-first, reduce-next}
 use Rattle.knowledge.proofs.reduce.Statement.{statement}
 use Rattle.knowledge.proofs.reduce.Tie as tie

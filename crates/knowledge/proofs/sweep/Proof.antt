@@ -6,7 +6,7 @@ use mathlib.Core.List.{List, []}
 use lib.ListN.{getD}
 use denote.Ref.{now}
 use Rattle.bitset.specs.Words.{value}
-use Rattle.knowledge.specs.Rows.{rowAt, withoutRow, SameOutside}
+use Rattle.knowledge.specs.Inner.Rows.{rowAt, withoutRow, SameOutside}
 use Rattle.knowledge.proofs.Laws.Rows.{row-off}
 use Rattle.knowledge.proofs.Laws.Cache.{swept-more}
 use Rattle.knowledge.proofs.Laws.Store.{same-refl, same-trans, same-wider}

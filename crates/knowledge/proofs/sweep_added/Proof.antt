@@ -9,7 +9,7 @@ use denote.Ref.{now}
 use lib.Dec.{eqb}
 use lib.ListN.{getD}
 use Rattle.bitset.specs.Words.{value}
-use Rattle.knowledge.specs.Rows.{rowAt, withoutRow, Remainders}
+use Rattle.knowledge.specs.Inner.Rows.{rowAt, withoutRow, Remainders}
 use Rattle.knowledge.proofs.Laws.Store.{same-refl}
 use Rattle.knowledge.proofs.Laws.Cache.{remainders-swept}
 use Rattle.knowledge.proofs.sweep_added.Statement.{statement}

@@ -7,8 +7,8 @@ use borrow.Author.Needs.{needs}
 use denote.Ref.{now}
 use Rattle.bitset.specs.Words.{value}
 use Rattle.deduction.specs.Elimination.{Reduced}
-use Rattle.knowledge.specs.Rows.{rowAt}
-use Rattle.knowledge.specs.State.{reducedOf}
+use Rattle.knowledge.specs.Inner.Rows.{rowAt}
+use Rattle.knowledge.specs.Inner.State.{reducedOf}
 use Rattle.knowledge.proofs.Laws.Rows.{row-test, take-off-held, take-off-none}
 use Rattle.knowledge.proofs.take_row.Statement.{statement}
 use Rattle.knowledge.proofs.take_row.Tie as tie

@@ -15,13 +15,13 @@ use Rattle.dag.specs.Record.{entryAt}
 use Rattle.dag.specs.Refusal.{when, orElse, refusal}
 use Rattle.dag.proofs.Laws.Refusal.{when-yes, when-no, when-zero, orElse-none, orElse-some, orElse-zero-left, orElse-zero-right}
 use Rattle.derive.specs.Bytes.{stepsBytes}
-use Rattle.derive.specs.Ran.{verdictOf}
+use Rattle.derive.specs.Inner.Ran.{verdictOf}
 use Rattle.derive.specs.declared.run.Ended.{Ended}
 use Rattle.derive.specs.declared.run.Verdict as program
 use Rattle.verdict.specs.Refused.{refusalOf}
 use Rattle.verdict.specs.Demands.{verdictCode, stepsIn, Meets, Demanded}
 use Rattle.verdict.specs.Answer.{outcomeOf, answerOf, bufferOf}
-use Rattle.verdict.specs.Inner.{Decided}
+use Rattle.verdict.specs.Inner.Decide.{Decided}
 use Rattle.verdict.proofs.Laws.Demands.{few-steps, known-read, steps-read, run-ends, meets}
 
 module _ (s : List ℕ) (cut budget space : ℕ) where

@@ -15,15 +15,15 @@ use Rattle.deduction.specs.Step.{Step}
 use Rattle.deduction.specs.Run.{knowledge}
 use Rattle.dag.specs.Sheet.{countOf, goalOf}
 use Rattle.dag.specs.Record.{entryAt}
-use Rattle.knowledge.specs.State.{stateOf}
+use Rattle.knowledge.specs.Inner.State.{stateOf}
 use Rattle.derive.specs.Bytes.{stepsBytes}
-use Rattle.derive.specs.Machine.{Ended, machine}
-use Rattle.derive.specs.Ran.{endOf, Ran}
+use Rattle.derive.specs.Inner.Machine.{Ended, machine}
+use Rattle.derive.specs.Inner.Ran.{endOf, Ran}
 use Rattle.derive.specs.declared.run.Ended as program
 use Rattle.derive.proofs.Laws.Machine.{asEnded, machine-run}
 use Rattle.verdict.specs.Answer.{outcomeOf}
 use Rattle.verdict.specs.Start.{startHeads}
-use Rattle.verdict.specs.Inner.{Decided}
+use Rattle.verdict.specs.Inner.Decide.{Decided}
 
 module _ (s : List ℕ) (cut budget : ℕ) (known rows : List ℕ) (len : ℕ) (state : stateOf known rows len ≡ knowledge (entryAt s) (startHeads s cut)) where
   ends : endOf s budget known rows len ≡ asEnded (entryAt s) (outcomeOf s cut budget)

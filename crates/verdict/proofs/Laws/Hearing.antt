@@ -16,13 +16,13 @@ use Rattle.deduction.proofs.Standard.{rep-le}
 use Rattle.dag.specs.Sheet.{countOf, traceAt, listed}
 use Rattle.dag.specs.Record.{entryAt}
 use Rattle.dag.proofs.Laws.Good.{good}
-use Rattle.knowledge.specs.Rows.{SameOutside, Remainders}
-use Rattle.knowledge.specs.State.{stateOf, Room}
+use Rattle.knowledge.specs.Inner.Rows.{SameOutside, Remainders}
+use Rattle.knowledge.specs.Inner.State.{stateOf, Room}
 use Rattle.knowledge.specs.declared.Knowledge as program
 use Rattle.knowledge.proofs.Laws.Learn.{learn-again}
 use Rattle.knowledge.proofs.Laws.Cache.{remainders-first, remainders-kept}
 use Rattle.verdict.specs.Start.{startHeads}
-use Rattle.verdict.specs.Inner.{Heard}
+use Rattle.verdict.specs.Inner.Decide.{Heard}
 
 start-more : (s : List ℕ) (k : ℕ) → startHeads s (k + 1) ≡ startHeads s k ++ (repAt (entryAt s) (traceAt s k) ∷ [])
 unfolding listed

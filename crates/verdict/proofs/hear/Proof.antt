@@ -10,7 +10,7 @@ use lib.ListN.{getD}
 use borrow.Author.Needs.{needs}
 use borrow.Author.Tests.{not-false}
 use denote.Ref.{now}
-use Rattle.verdict.specs.Inner.{Heard}
+use Rattle.verdict.specs.Inner.Decide.{Heard}
 use Rattle.verdict.specs.Start.{startHeads}
 use Rattle.dag.specs.Sheet.{countOf}
 use Rattle.dag.specs.Record.{entryAt}

@@ -3,7 +3,7 @@ use mathlib.Core.Path.{ap, _∙_}
 use borrow.Author.Needs.{needs}
 use Rattle.bitset.specs.Set.{member}
 use Rattle.bitset.specs.Words.{value}
-use Rattle.derive.specs.Search.{bothKnown}
+use Rattle.derive.specs.Inner.Search.{bothKnown}
 use Rattle.derive.proofs.Laws.Line.{part-test}
 use Rattle.derive.proofs.next.both_known.Statement.{statement}
 use Rattle.derive.proofs.next.both_known.Tie as tie

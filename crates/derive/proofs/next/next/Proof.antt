@@ -6,7 +6,7 @@ use native.Mathlib.Omega.{arith}
 use borrow.Author.Needs.{needs}
 use denote.Ref.{now}
 use Rattle.bitset.specs.Words.{value}
-use Rattle.derive.specs.Search.{searchLeast}
+use Rattle.derive.specs.Inner.Search.{searchLeast}
 use Rattle.derive.proofs.Laws.Line.{search-line, search-skip}
 use Rattle.derive.proofs.next.next.Statement.{statement}
 use Rattle.derive.proofs.next.next.Tie as tie

@@ -1,7 +1,7 @@
 -- `derive::next::offer` meets its contract: by the test of the head.
 use mathlib.Core.Path.{sym, _∙_}
 use borrow.Author.Needs.{needs}
-use Rattle.derive.specs.Search.{offered}
+use Rattle.derive.specs.Inner.Search.{offered}
 use Rattle.derive.proofs.next.offer.Statement.{statement}
 use Rattle.derive.proofs.next.offer.Tie as tie
 

@@ -1,7 +1,7 @@
 -- `derive::next::offered_by` meets its contract: by the test whether the entry is known.
 use mathlib.Core.Path.{sym, _∙_}
 use borrow.Author.Needs.{needs}
-use Rattle.derive.specs.Search.{lineLeast}
+use Rattle.derive.specs.Inner.Search.{lineLeast}
 use Rattle.derive.proofs.next.offered_by.Statement.{statement}
 use Rattle.derive.proofs.next.offered_by.Tie as tie
 

@@ -3,8 +3,8 @@ use mathlib.Core.Path.{refl, ap, _∙_}
 use borrow.Author.Needs.{needs}
 use denote.Ref.{now}
 use Rattle.deduction.specs.Elimination.{Reduced}
-use Rattle.knowledge.specs.Rows.{rowsOf}
-use Rattle.derive.specs.Search.{stepIn}
+use Rattle.knowledge.specs.Inner.Rows.{rowsOf}
+use Rattle.derive.specs.Inner.Search.{stepIn}
 use Rattle.derive.proofs.Laws.Line.{step-projection, step-decrypt, step-built, step-sum}
 use Rattle.derive.proofs.next.step_of.Statement.{statement}
 use Rattle.derive.proofs.next.step_of.Tie as tie

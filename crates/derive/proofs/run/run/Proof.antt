@@ -11,7 +11,7 @@ use borrow.Author.Needs.{needs}
 use denote.Ref.{now}
 use Rattle.bitset.specs.Set.{member}
 use Rattle.bitset.specs.Words.{value}
-use Rattle.derive.specs.Ran.{Ready}
+use Rattle.derive.specs.Inner.Ran.{Ready}
 use Rattle.derive.specs.declared.run.Verdict.the-variants.{Derivable, Underivable, Exhausted}
 use Rattle.derive.proofs.Laws.Along.{Along, along-start, along-end, along-step}
 use Rattle.derive.proofs.Laws.Machine.{machine-derivable, machine-underivable, machine-exhausted}
@@ -22,11 +22,11 @@ use Rattle.dag.specs.Record.{entryAt}
 use Rattle.dag.proofs.Laws.Good.{good}
 use Rattle.deduction.specs.Standard.{repAt}
 use Rattle.deduction.specs.Run as theory
-use Rattle.knowledge.specs.State.{stateOf}
-use Rattle.derive.specs.Machine.{machine}
-use Rattle.derive.specs.Search.{searchLeast, stepIn}
+use Rattle.knowledge.specs.Inner.State.{stateOf}
+use Rattle.derive.specs.Inner.Machine.{machine}
+use Rattle.derive.specs.Inner.Search.{searchLeast, stepIn}
 use Rattle.derive.specs.Bytes.{stepBytes}
-use Rattle.knowledge.specs.Rows.{rowsOf, SameOutside, Remainders}
+use Rattle.knowledge.specs.Inner.Rows.{rowsOf, SameOutside, Remainders}
 use Rattle.knowledge.proofs.Laws.Learn.{ones-words}
 use Rattle.derive.proofs.run.run.Statement.{statement}
 use Rattle.derive.proofs.run.run.Tie as tie

@@ -10,11 +10,11 @@ use Rattle.deduction.specs.Run as theory
 use Rattle.dag.specs.Sheet.{countOf, goalOf}
 use Rattle.dag.specs.Record.{entryAt}
 use Rattle.dag.specs.Refusal.{refusal}
-use Rattle.canonical.specs.Tables.{Right, Sized}
-use Rattle.knowledge.specs.Rows.{SameOutside, Remainders}
-use Rattle.knowledge.specs.State.{stateOf, Room}
+use Rattle.canonical.specs.Inner.Tables.{Right, Sized}
+use Rattle.knowledge.specs.Inner.Rows.{SameOutside, Remainders}
+use Rattle.knowledge.specs.Inner.State.{stateOf, Room}
 use Rattle.derive.specs.Bytes.{stepsBytes}
-use Rattle.derive.specs.Machine.{Ended, machine}
+use Rattle.derive.specs.Inner.Machine.{Ended, machine}
 use Rattle.derive.specs.declared.run.Verdict.{Verdict}
 use Rattle.derive.specs.declared.run.Verdict.the-variants.{Derivable, Underivable, Exhausted}
 use Rattle.derive.specs.declared.run.Ended as program

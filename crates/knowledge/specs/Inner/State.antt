@@ -5,7 +5,7 @@ use mathlib.Core.List.{List}
 use lib.Count.{ones}
 use Rattle.bitset.specs.Words.{value}
 use Rattle.deduction.specs.Elimination as elimination
-use Rattle.knowledge.specs.Rows.{rowsOf}
+use Rattle.knowledge.specs.Inner.Rows.{rowsOf}
 
 -- the known set's words, the rows' words and the number of rows
 abbrev pub stateOf : List ℕ → List ℕ → ℕ → elimination.Knowledge

@@ -7,7 +7,7 @@ use lib.ListN.{length, getD}
 use Rattle.bitset.specs.Words.{value}
 use Rattle.deduction.specs.Entry.{Entry}
 use Rattle.deduction.specs.Standard.{setAt, repAt}
-use Rattle.canonical.specs.Key.{keyAt}
+use Rattle.canonical.specs.Inner.Key.{keyAt}
 
 -- a table of sets, as numbers
 abbrev pub setIn : List (List ℕ) → ℕ → ℕ

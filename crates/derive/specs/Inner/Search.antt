@@ -11,7 +11,7 @@ use Rattle.bitset.specs.Words.{value}
 use Rattle.deduction.specs.Elimination.{Row, reduce}
 use Rattle.deduction.specs.Step.{Step, step, unused}
 use Rattle.deduction.specs.Run.{number, noStep}
-use Rattle.canonical.specs.Key.{keyKind, keyLeft, keyRight}
+use Rattle.canonical.specs.Inner.Key.{keyKind, keyLeft, keyRight}
 
 -- the step that gains h by rule r from i, unless h is in the known set g
 unfoldable pub offered : ℕ → ℕ → ℕ → ℕ → ℕ
