@@ -221,6 +221,9 @@ fn judge<const BY_VALUE: bool>(sheet: &[u8], cut: u32, budget: u32, out: &mut [u
     let (mut s, mut remainders) = (State::new(), t.sets);
     for k in 0..cut as usize {
         let (before, e) = (s.len, t.reps[at(10 + 4 * t.n + 2 * k)]);
+        if has(&s.known, e) {
+            continue;
+        }
         if BY_VALUE {
             s = s.hear(e, &t.sets[e as usize]);
         } else {
