@@ -14,12 +14,14 @@ mod bytes;
 mod card;
 #[path = "../tools/sheet/dot.rs"]
 mod dot;
+#[allow(dead_code)]
 #[path = "../tools/sheet/graph.rs"]
 mod graph;
 #[path = "../tools/sheet/heads.rs"]
 mod heads;
 #[path = "../tools/sheet/layout.rs"]
 mod layout;
+#[allow(dead_code)]
 #[path = "../tools/sheet/model.rs"]
 mod model;
 #[path = "../tools/sheet/print.rs"]
@@ -155,7 +157,7 @@ fn round_trips(c: &mut Checks) {
     let mut r = Random(0x9e3779b97f4a7c15);
     for i in 0..3000 {
         let bytes = if i % 50 == 0 { large(&mut r) } else { random_sheet(&mut r) };
-        let back = bytes::decode(&bytes).ok().and_then(|sheet| text::parse(print::print(&sheet).as_bytes()).ok()).map(|sheet| bytes::encode(&sheet));
+        let back = bytes::decode(&bytes).ok().and_then(|sheet| text::parse(print::print(&sheet).as_bytes()).ok()).map(|text| bytes::encode(&text.sheet));
         c.check("a sheet comes back from its text", back.as_deref() == Some(&bytes[..]));
         let hurt = damage(&mut r, bytes);
         c.check("a damaged sheet gets its refusal", bytes::decode(&hurt).err().unwrap_or(0) == refusal(&hurt));
@@ -191,7 +193,7 @@ fn good_texts(c: &mut Checks) {
     c.check("assemble writes its file", run.status == 0 && run.out.is_empty() && written == Some(sheet_a()));
     let run = c.run(&["disassemble", "a.bytes", "-o", "back.sheet"], b"");
     let written = c.content("back.sheet").unwrap_or_default();
-    c.check("disassemble writes its file", run.status == 0 && text::parse(&written).map(|s| bytes::encode(&s)) == Ok(sheet_a()));
+    c.check("disassemble writes its file", run.status == 0 && text::parse(&written).map(|text| bytes::encode(&text.sheet)) == Ok(sheet_a()));
     let entries = |n: usize, last: &str| (0..n).map(|i| format!("{i} zero\n")).collect::<String>() + last;
     let most = format!("{}{}\nheard{}\ngoal 0\n", entries(255, "255 sum"), " 1".repeat(64), " 0".repeat(256));
     c.check("the most of everything", c.run(&["assemble"], most.as_bytes()).status == 0);
@@ -215,7 +217,8 @@ fn bad_texts() -> Vec<(String, &'static str, Vec<&'static str>)> {
         ("heard 0\n", "1:7", vec!["entry 0 isn't declared above", "there is none"]),
         ("a zero\nb pair a  # short\n", "2:9", vec!["found the line's end", "expected the right entry"]),
         ("a zero\nb seal\n", "2:7", vec!["found the line's end", "expected the message"]),
-        ("a atom\n", "1:7", vec!["expected the atom's number"]),
+        ("a atom  # no goal\n", "2:1", vec!["found no goal"]),
+        ("a atom b\n", "1:8", vec!["found \"b\"", "expected a number from 0 to 65535"]),
         ("a\n", "1:2", vec!["expected zero, atom, pair, seal or sum"]),
         ("a zero\ngoal\n", "2:5", vec!["expected the goal's entry"]),
         ("a zero b\n", "1:8", vec!["found \"b\"", "expected the line's end after zero"]),
@@ -283,8 +286,9 @@ fn refused_sheets(c: &mut Checks) {
 }
 
 fn usage(c: &mut Checks) {
-    let told: [(&[&str], &str); 6] = [
+    let told: [(&[&str], &str); 7] = [
         (&["--help"], "sheet - "),
+        (&["judge", "--help"], "usage: sheet judge "),
         (&["-h"], "sheet - "),
         (&["assemble", "--help"], "usage: sheet assemble "),
         (&["disassemble", "-h"], "usage: sheet disassemble "),
@@ -303,7 +307,7 @@ fn usage(c: &mut Checks) {
         (&["disassemble", "-x"], "unknown option -x"),
         (&["assemble", "-o"], "expected a file name"),
         (&["assemble", "-o", "a", "-o", "b"], "-o is given twice"),
-        (&["draw", "a"], "found 1"),
+        (&["draw"], "found 0"),
         (&["draw", "a", "b", "c"], "found 3"),
         (&["draw", "-", "-"], "can't both be standard input"),
         (&["draw", "--svg", "--dot", "a", "b"], "two formats"),

@@ -21,22 +21,45 @@ pub enum Command {
     Say(&'static str),
     Assemble { text: File, out: File },
     Disassemble { sheet: File, out: File },
-    Draw { sheet: File, card: File, dot: bool, out: File },
+    // Without a card the library is asked.
+    Draw { sheet: File, card: Option<File>, dot: bool, needed: bool, out: File },
+    // Without a cut: every cut up to the first reached.
+    Judge { sheet: File, cut: Option<u32>, out: File },
 }
 
+// The version of the tool and of the library, as the C header has it.
 const VERSION: &str = "sheet 1.0.0\n";
 
 const HELP: &str = "\
-sheet - sheets as text, and pictures of their ladders
+sheet - sheets as text, verdicts in names, and pictures of their ladders
 
-usage: sheet assemble    [TEXT] [-o FILE]                 text notation to sheet bytes
+usage: sheet judge [SHEET] [--cut C] [-o FILE]            verdict and steps, by name
+       sheet assemble    [TEXT] [-o FILE]                 text notation to sheet bytes
        sheet disassemble [SHEET] [-o FILE]                sheet bytes to text notation
-       sheet draw [--svg | --dot] SHEET CARD [-o FILE]    picture of a card's ladder
+       sheet draw [--svg | --dot] [--needed] SHEET [CARD] [-o FILE]    picture of the ladder
        sheet COMMAND --help
        sheet --version
 
-A file name that is missing or - is standard input; without -o, standard output is written.
+A file name that is missing or - is standard input; without -o, standard output is written. -o replaces a file only when all of
+the new one is written, and never the file that is read.
 Status: 0 done, 1 bad input or an output that can't be written, 2 wrong usage. Unless done, nothing is written.
+judge ends with 0 for out of reach and 3 for reached.
+";
+
+const JUDGE: &str = "\
+usage: sheet judge [SHEET] [--cut C] [-o FILE]
+
+Asks the proved library whether a listener gains the goal, and says it in names. SHEET is text notation or sheet bytes.
+The first line is the verdict, reached or out of reach. Then a line a cut, up to the first reached, and the steps in order:
+
+    LEFT split left PAIR            RIGHT split right PAIR
+    MESSAGE open SEAL with KEY      PAIR join LEFT, RIGHT
+    SEAL seal MESSAGE under KEY     TERM sum of TERM, TERM      TERM sum of nothing
+    NAME is the same term as NAME
+
+    --cut C    only the first C heard messages
+
+Status: 0 out of reach, 3 reached, 1 bad text, a refused sheet or an output that can't be written, 2 wrong usage.
 ";
 
 const ASSEMBLE: &str = "\
@@ -46,6 +69,7 @@ Reads the text notation of a sheet and writes the sheet's bytes. One statement a
 
     LABEL zero
     LABEL atom NUMBER           0 to 65535
+    LABEL atom                  a number of 1000 or more that no other entry has
     LABEL pair LEFT RIGHT
     LABEL seal MESSAGE KEY
     LABEL sum ITEM*             0 to 64 items
@@ -53,6 +77,7 @@ Reads the text notation of a sheet and writes the sheet's bytes. One statement a
     goal ENTRY                  exactly once
 
 LABEL is the entry's number (0, 1, ...) or a name. Entries are referred to by number or name, below their line.
+Atoms with one number are one term: where two of them have names, a note on standard error names both.
 ";
 
 const DISASSEMBLE: &str = "\
@@ -63,13 +88,15 @@ A sheet that would be refused gives the refusal's number and word.
 ";
 
 const DRAW: &str = "\
-usage: sheet draw [--svg | --dot] SHEET CARD [-o FILE]
+usage: sheet draw [--svg | --dot] [--needed] SHEET [CARD] [-o FILE]
 
-Draws the ladder of a card: heard messages on the left, a box for each rung, lines from its sources, the goal in gold.
-SHEET is text notation (names become labels) or sheet bytes; CARD is what zuwendryk prints for it. One of them may be -.
+Draws the ladder: a box for each rung and for each heard message that is used, lines from a rung's sources, the goal in gold.
+SHEET is text notation (names become labels) or sheet bytes. CARD is what zuwendryk prints for it; without it the library is
+asked. One of them may be -. A long ladder is drawn in rows; a small box stands for a term of a row above.
 
-    --svg    SVG (the default)
-    --dot    Graphviz text
+    --svg       SVG (the default)
+    --dot       Graphviz text
+    --needed    leaves out what the goal doesn't need, and says how much that is
 ";
 
 // Options and file names of one command, as they stand on the line.
@@ -78,6 +105,8 @@ struct Words {
     files: Vec<OsString>,
     out: Option<OsString>,
     formats: Vec<bool>,
+    needed: bool,
+    cut: Option<u32>,
     help: bool,
 }
 
@@ -85,10 +114,17 @@ fn shown(word: &OsString) -> String {
     word.to_string_lossy().chars().flat_map(char::escape_debug).collect()
 }
 
-fn sort(words: impl Iterator<Item = OsString>, draw: bool) -> Result<Words, String> {
+fn cut_of(word: Option<OsString>) -> Result<u32, String> {
+    let word = word.ok_or("--cut is the last word, expected a number after it")?;
+    let digits = word.to_str().filter(|text| text.bytes().all(|b| b.is_ascii_digit()));
+    digits.and_then(|text| text.parse().ok()).ok_or_else(|| format!("--cut {}: expected a number of heard messages", shown(&word)))
+}
+
+fn sort(words: impl Iterator<Item = OsString>, command: &str) -> Result<Words, String> {
     let mut sorted = Words::default();
     let mut words = words;
     let mut plain = false;
+    let (draw, judge) = (command == "draw", command == "judge");
     while let Some(word) = words.next() {
         match word.to_str() {
             _ if plain => sorted.files.push(word),
@@ -96,6 +132,9 @@ fn sort(words: impl Iterator<Item = OsString>, draw: bool) -> Result<Words, Stri
             Some("-h" | "--help") => sorted.help = true,
             Some("--svg") if draw => sorted.formats.push(false),
             Some("--dot") if draw => sorted.formats.push(true),
+            Some("--needed") if draw => sorted.needed = true,
+            Some("--cut") if judge && sorted.cut.is_some() => return Err("--cut is given twice, expected once".to_string()),
+            Some("--cut") if judge => sorted.cut = Some(cut_of(words.next())?),
             Some("-o") if sorted.out.is_some() => return Err("-o is given twice, expected once".to_string()),
             Some("-o") => sorted.out = Some(words.next().ok_or("-o is the last word, expected a file name after it")?),
             Some("-") => sorted.files.push(word),
@@ -120,34 +159,38 @@ fn draw(words: Words, out: File) -> Result<Command, String> {
     }
     let dot = words.formats.first().copied().unwrap_or(false);
     let count = words.files.len();
-    let [sheet, card]: [OsString; 2] =
-        words.files.try_into().map_err(|_| format!("draw takes two file names, SHEET and CARD; found {count}"))?;
-    let (sheet, card) = (File::of(sheet), File::of(card));
-    if sheet == File::Standard && card == File::Standard {
+    let mut files = words.files.into_iter().map(File::of);
+    let (sheet, card) = match (count, files.next(), files.next()) {
+        (1 | 2, Some(sheet), card) => (sheet, card),
+        _ => return Err(format!("draw takes one or two file names, SHEET and CARD; found {count}")),
+    };
+    if sheet == File::Standard && card == Some(File::Standard) {
         return Err("SHEET and CARD can't both be standard input".to_string());
     }
-    Ok(Command::Draw { sheet, card, dot, out })
+    Ok(Command::Draw { sheet, card, dot, needed: words.needed, out })
 }
 
 // The command of a line without the program's own name.
 pub fn parse(mut line: impl Iterator<Item = OsString>) -> Result<Command, String> {
-    let first = line.next().ok_or("no command, expected assemble, disassemble or draw")?;
-    let help = match first.to_str() {
+    let first = line.next().ok_or("no command, expected judge, assemble, disassemble or draw")?;
+    let (name, help) = match first.to_str() {
         Some("-h" | "--help") => return Ok(Command::Say(HELP)),
         Some("--version") => return Ok(Command::Say(VERSION)),
-        Some("assemble") => ASSEMBLE,
-        Some("disassemble") => DISASSEMBLE,
-        Some("draw") => DRAW,
-        _ => return Err(format!("unknown command {}, expected assemble, disassemble or draw", shown(&first))),
+        Some("judge") => ("judge", JUDGE),
+        Some("assemble") => ("assemble", ASSEMBLE),
+        Some("disassemble") => ("disassemble", DISASSEMBLE),
+        Some("draw") => ("draw", DRAW),
+        _ => return Err(format!("unknown command {}, expected judge, assemble, disassemble or draw", shown(&first))),
     };
-    let mut words = sort(line, first == "draw")?;
+    let mut words = sort(line, name)?;
     if words.help {
         return Ok(Command::Say(help));
     }
     let out = words.out.take().map_or(File::Standard, File::of);
-    match first.to_str() {
-        Some("assemble") => Ok(Command::Assemble { text: one("assemble", words.files)?, out }),
-        Some("disassemble") => Ok(Command::Disassemble { sheet: one("disassemble", words.files)?, out }),
+    match name {
+        "judge" => Ok(Command::Judge { cut: words.cut, sheet: one(name, words.files)?, out }),
+        "assemble" => Ok(Command::Assemble { text: one(name, words.files)?, out }),
+        "disassemble" => Ok(Command::Disassemble { sheet: one(name, words.files)?, out }),
         _ => draw(words, out),
     }
 }

@@ -1,7 +1,8 @@
-// Reading inputs whole and writing outputs whole. A fault is one line for the user.
+// Reading inputs whole and writing outputs whole, by name. A fault is one line for the user.
 
 use super::args::File;
-use std::io::{Read, Write};
+use super::output;
+use std::io::Read;
 
 const MOST: u64 = 64 << 20;
 
@@ -34,12 +35,23 @@ pub fn read(file: &File) -> Result<Vec<u8>, String> {
     Ok(bytes)
 }
 
+// The output isn't one of the files that are read.
+pub fn apart(inputs: &[&File], out: &File) -> Result<(), String> {
+    for input in inputs {
+        let path = |file: &File, standard: &str| match file {
+            File::Standard => std::ffi::OsString::from(standard),
+            File::Named(name) => name.clone(),
+        };
+        if output::same_file(&path(input, "/dev/stdin"), &path(out, "/dev/stdout")) {
+            return Err(format!("{}: is read and can't be written too, expected another file for the output", name(input)));
+        }
+    }
+    Ok(())
+}
+
 pub fn write(file: &File, bytes: &[u8]) -> Result<(), String> {
     match file {
-        File::Standard => {
-            let mut out = std::io::stdout().lock();
-            out.write_all(bytes).and_then(|()| out.flush()).map_err(|error| format!("<stdout>: can't be written: {error}"))
-        }
-        File::Named(path) => std::fs::write(path, bytes).map_err(|error| format!("{}: can't be written: {error}", name(file))),
+        File::Standard => output::print(bytes).map_err(|error| format!("<stdout>: can't be written: {error}")),
+        File::Named(path) => output::replace(path.as_ref(), bytes).map_err(|error| format!("{}: can't be written: {error}", name(file))),
     }
 }

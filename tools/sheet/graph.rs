@@ -61,14 +61,6 @@ fn term(sheet: &Sheet, entry: usize) -> String {
     }
 }
 
-// An entry's name, or its number with a word before it.
-fn heading(sheet: &Sheet, entry: usize) -> String {
-    match &sheet.names[entry] {
-        Some(name) => name.clone(),
-        None => format!("entry {entry}"),
-    }
-}
-
 struct Maker<'a> {
     sheet: &'a Sheet,
     heads: &'a Heads,
@@ -83,8 +75,8 @@ impl Maker<'_> {
         let (head, goal) = (self.heads.head[shown], self.sheet.goal);
         let is_goal = self.heads.head[goal] == head;
         let other = if is_goal && goal != shown { goal } else { head };
-        let same = (other != shown).then(|| heading(self.sheet, other));
-        let label = heading(self.sheet, shown);
+        let same = (other != shown).then(|| self.sheet.heading(other));
+        let label = self.sheet.heading(shown);
         self.node_of[head] = Some(self.nodes.len());
         self.nodes.push(Node { kind, label, term: term(self.sheet, shown), same, goal: is_goal, needed: is_goal });
     }
@@ -166,7 +158,7 @@ fn reached(mut maker: Maker, cut: usize, rungs: &[super::card::Rung]) -> Graph {
     let unused = sheet.heard.iter().take(cut).filter(|entry| !used(heads.head[**entry])).count();
     let notes = notes(&nodes, &list, unused, sheet.heard.len() - cut);
     let heard = counted(cut, "heard message", "heard messages");
-    let title = format!("{} is reached after {heard}, in {}", heading(sheet, sheet.goal), counted(rungs.len(), "rung", "rungs"));
+    let title = format!("{} is reached after {heard}, in {}", sheet.heading(sheet.goal), counted(rungs.len(), "rung", "rungs"));
     Graph { nodes, edges: list, title, notes, reached: true }
 }
 
@@ -175,7 +167,7 @@ fn missed(mut maker: Maker, known: usize) -> Graph {
     maker.hear(sheet.heard.len(), |_| true);
     maker.node(Kind::Missed, sheet.goal);
     let heard = counted(sheet.heard.len(), "heard message", "heard messages");
-    let title = format!("{} is out of reach after {heard}", heading(sheet, sheet.goal));
+    let title = format!("{} is out of reach after {heard}", sheet.heading(sheet.goal));
     let terms = counted(heads.count(), "different term", "different terms");
     let notes = vec![format!("Known: {known} of the sheet's {terms}.")];
     Graph { nodes: maker.nodes, edges: Vec::new(), title, notes, reached: false }
@@ -187,4 +179,8 @@ pub fn graph(sheet: &Sheet, heads: &Heads, card: &Card) -> Graph {
         Card::Reached { cut, rungs } => reached(maker, *cut, rungs),
         Card::OutOfReach { known } => missed(maker, *known),
     }
+}
+
+pub fn needed(graph: Graph) -> Graph {
+    graph
 }

@@ -22,12 +22,31 @@ pub struct Sheet {
     pub goal: usize,
 }
 
+impl Entry {
+    // The entries that the record names.
+    pub fn parts(&self) -> Vec<usize> {
+        match self {
+            Entry::Zero | Entry::Atom(_) => vec![],
+            Entry::Pair(one, other) | Entry::Seal(one, other) => vec![*one, *other],
+            Entry::Sum(items) => items.clone(),
+        }
+    }
+}
+
 impl Sheet {
     // The entry's name, or its number.
     pub fn label(&self, entry: usize) -> String {
         match self.names.get(entry) {
             Some(Some(name)) => name.clone(),
             _ => entry.to_string(),
+        }
+    }
+
+    // The same in a sentence: a number has a word before it.
+    pub fn heading(&self, entry: usize) -> String {
+        match self.names.get(entry) {
+            Some(Some(name)) => name.clone(),
+            _ => format!("entry {entry}"),
         }
     }
 }

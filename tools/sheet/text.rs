@@ -7,12 +7,26 @@ use std::collections::HashMap;
 const RESERVED: [&str; 7] = ["zero", "atom", "pair", "seal", "sum", "heard", "goal"];
 const KINDS: &str = "expected zero, atom, pair, seal or sum";
 
-// What has been read so far. `named` gives a name's entry and line; `goal` the goal and its line.
+// The least number that an atom without one gets.
+const LEAST_OWN: u16 = 1000;
+
+// A text's sheet, and what its writer may not have meant.
+#[derive(Clone, Debug, PartialEq)]
+pub struct Text {
+    pub sheet: Sheet,
+    pub notes: Vec<Fault>,
+}
+
+// What has been read so far. `named` gives a name's entry and line; `goal` the goal and its line. `atoms` has the name with which
+// each written atom number first stands; `unnumbered` the atoms that get a number at the end.
 #[derive(Default)]
 struct Reader {
     entries: Vec<Entry>,
     names: Vec<Option<String>>,
     named: HashMap<String, (usize, usize)>,
+    atoms: HashMap<u16, Option<String>>,
+    unnumbered: Vec<usize>,
+    notes: Vec<Fault>,
     heard: Vec<usize>,
     goal: Option<(usize, usize)>,
 }
@@ -117,6 +131,7 @@ impl Reader {
         let kind = word(line, 1, "zero, atom, pair, seal or sum after the label")?;
         match kind.text {
             "zero" => ends(line, 2, "zero").map(|()| Entry::Zero),
+            "atom" if line.words.len() == 2 => Ok(Entry::Atom(LEAST_OWN)),
             "atom" => {
                 let number = atom_number(word(line, 2, "the atom's number, 0 to 65535")?)?;
                 ends(line, 3, "the atom's number").map(|()| Entry::Atom(number))
@@ -128,12 +143,39 @@ impl Reader {
         }
     }
 
+    // Takes a written atom number, and notes a second name for it.
+    fn note(&mut self, atom: u16, name: Option<&String>, place: Place) {
+        let first = self.atoms.entry(atom).or_insert_with(|| name.cloned());
+        match (first, name) {
+            (Some(first), Some(name)) if first != name => {
+                let line = self.named.get(first).map_or(0, |(_, line)| *line);
+                let both = format!("{} and {} (line {line})", quoted(name), quoted(first));
+                let message = format!("note: {both} are one term, since both are atom {atom}; without a number an atom is like no other");
+                self.notes.push(Fault { place, message });
+            }
+            (first, _) => *first = first.take().or_else(|| name.cloned()),
+        }
+    }
+
+    // Gives each atom without a number the least one from 1000 on that no other has.
+    fn number_atoms(&mut self) {
+        let free = (LEAST_OWN..=u16::MAX).filter(|number| !self.atoms.contains_key(number));
+        for (entry, number) in self.unnumbered.iter().zip(free) {
+            self.entries[*entry] = Entry::Atom(number);
+        }
+    }
+
     fn declare(&mut self, line: &Line, first: Word) -> Result<(), Fault> {
         let number = self.entries.len();
         let name = self.label(first)?;
         let term = self.term(line)?;
         if number == MOST_ENTRIES {
             return fault(first.place, format!("found entry line {}, expected at most {MOST_ENTRIES}", number + 1));
+        }
+        match term {
+            Entry::Atom(_) if line.words.len() == 2 => self.unnumbered.push(number),
+            Entry::Atom(atom) => self.note(atom, name.as_ref(), first.place),
+            _ => (),
         }
         if let Some(name) = &name {
             self.named.insert(name.clone(), (number, first.place.line));
@@ -173,19 +215,23 @@ impl Reader {
         }
     }
 
-    fn finish(self, end: Place) -> Result<Sheet, Fault> {
+    fn finish(mut self, end: Place) -> Result<Text, Fault> {
+        self.number_atoms();
         if self.entries.is_empty() {
             return fault(end, format!("found no entries, expected 1 to {MOST_ENTRIES} entry lines"));
         }
         match self.goal {
             None => fault(end, "found no goal, expected one line: goal ENTRY".to_string()),
-            Some((goal, _)) => Ok(Sheet { entries: self.entries, names: self.names, heard: self.heard, goal }),
+            Some((goal, _)) => {
+                let sheet = Sheet { entries: self.entries, names: self.names, heard: self.heard, goal };
+                Ok(Text { sheet, notes: self.notes })
+            }
         }
     }
 }
 
-// The sheet of a text, or its first fault.
-pub fn parse(bytes: &[u8]) -> Result<Sheet, Fault> {
+// The sheet of a text with its notes, or its first fault.
+pub fn parse(bytes: &[u8]) -> Result<Text, Fault> {
     let text = utf8(bytes)?;
     let mut reader = Reader::default();
     for (i, one) in text.lines().enumerate() {

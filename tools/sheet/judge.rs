@@ -1,0 +1,123 @@
+// A verdict in names: the first line says it in plain words, then a line a cut, the rungs, and which names are one term.
+// All of it comes from the library's call.
+
+use super::bytes::{encode, refusal_word};
+use super::card::{Rule, Rung};
+use super::graph::counted;
+use super::model::Sheet;
+use super::verdict::{head_of_first, verdict, verdicts, Verdict};
+use std::collections::BTreeSet;
+
+pub struct Judged {
+    pub text: String,
+    pub reached: bool,
+}
+
+// The number that came back in place of a verdict, in words.
+pub fn refused(number: u32) -> String {
+    match refusal_word(number) {
+        Some(word) => format!("refused {number} ({word})"),
+        None => format!("the library answered {number}, which is no verdict"),
+    }
+}
+
+// The verdict of one cut in plain words.
+fn first_line(sheet: &Sheet, cut: usize, verdict: &Verdict) -> String {
+    let (goal, all) = (sheet.heading(sheet.goal), sheet.heard.len());
+    let rungs = match verdict {
+        Verdict::OutOfReach { .. } => {
+            let from = match cut {
+                0 => "nothing heard".to_string(),
+                _ if cut < all => format!("the first {cut} of {all} heard messages"),
+                _ => format!("the {}", counted(all, "heard message", "heard messages")),
+            };
+            return format!("out of reach: no row of steps from {from} gains {goal}, through terms of any size\n");
+        }
+        Verdict::Reached(rungs) => rungs.len(),
+    };
+    let who = match cut {
+        0 if all == 0 => "who heard nothing".to_string(),
+        0 => format!("who heard none of the {all} messages"),
+        _ => format!("who heard the first {cut} of {all} messages"),
+    };
+    match rungs {
+        0 => format!("reached: a listener {who} has {goal} without a step, since it was heard\n"),
+        _ => format!("reached: a listener {who} gains {goal} in {}\n", counted(rungs, "step", "steps")),
+    }
+}
+
+fn cut_line(sheet: &Sheet, cut: usize, verdict: &Verdict) -> String {
+    let place = match cut {
+        0 => "before any message".to_string(),
+        _ => format!("after {}", sheet.heading(sheet.heard[cut - 1])),
+    };
+    match verdict {
+        Verdict::Reached(rungs) => format!("cut {cut} {place}: reached, {}\n", counted(rungs.len(), "step", "steps")),
+        Verdict::OutOfReach { known } => format!("cut {cut} {place}: out of reach, {known} known\n"),
+    }
+}
+
+fn rung_line(sheet: &Sheet, rung: &Rung) -> String {
+    let names: Vec<String> = rung.sources.iter().map(|source| sheet.label(*source)).collect();
+    let (words, between) = match rung.rule {
+        Rule::Left => ("split left", ""),
+        Rule::Right => ("split right", ""),
+        Rule::Open => ("open", " with "),
+        Rule::Join => ("join", ", "),
+        Rule::Seal => ("seal", " under "),
+        Rule::Sum if names.is_empty() => ("sum of nothing", ""),
+        Rule::Sum => ("sum of", ", "),
+    };
+    let space = if names.is_empty() { "" } else { " " };
+    format!("{} {words}{space}{}\n", sheet.label(rung.head), names.join(between))
+}
+
+// The lowest-numbered entry of the same term.
+fn head(sheet: &Sheet, entry: usize) -> usize {
+    let alone = Sheet { heard: vec![entry], ..sheet.clone() };
+    head_of_first(&encode(&alone)).unwrap_or(entry)
+}
+
+// The steps know each term under one name. A line for each other name of theirs and the goal's: among heard messages, the parts of
+// the entries that the steps name, and the goal.
+fn same_lines(sheet: &Sheet, cut: usize, rungs: &[Rung]) -> String {
+    let mut shown: BTreeSet<usize> = rungs.iter().flat_map(|rung| rung.sources.iter().copied().chain([rung.head])).collect();
+    let parts: Vec<usize> = shown.iter().filter_map(|entry| sheet.entries.get(*entry)).flat_map(|entry| entry.parts()).collect();
+    shown.insert(head(sheet, sheet.goal));
+    let named: BTreeSet<usize> = sheet.heard.iter().take(cut).copied().chain([sheet.goal]).chain(parts).collect();
+    let mut text = String::new();
+    for entry in named {
+        let head = head(sheet, entry);
+        if head != entry && shown.contains(&head) {
+            text += &format!("{} is the same term as {}\n", sheet.label(entry), sheet.label(head));
+        }
+    }
+    text
+}
+
+// A cut past the heard messages is said with their number.
+fn refused_cut(number: u32, sheet: &Sheet, cut: Option<u32>) -> String {
+    match cut {
+        Some(cut) if number == 8 => format!("{}: --cut {cut}, and {} heard", refused(number), counted(sheet.heard.len(), "message was", "messages were")),
+        _ => refused(number),
+    }
+}
+
+// Judges a sheet's bytes after one cut, or after each up to the first reached. `sheet` has the names.
+pub fn judge(bytes: &[u8], sheet: &Sheet, cut: Option<u32>) -> Result<Judged, String> {
+    let asked = match cut {
+        Some(cut) => verdict(bytes, cut).map(|answer| (cut as usize, vec![answer])),
+        None => verdicts(bytes, sheet.heard.len()).map(|list| (0, list)),
+    };
+    let (first, list) = asked.map_err(|number| refused_cut(number, sheet, cut))?;
+    let cut = first + list.len() - 1;
+    let last = list.last().cloned().unwrap_or(Verdict::OutOfReach { known: 0 });
+    let mut text = first_line(sheet, cut, &last);
+    for (i, verdict) in list.iter().enumerate() {
+        text += &cut_line(sheet, first + i, verdict);
+    }
+    let rungs = if let Verdict::Reached(rungs) = &last { &rungs[..] } else { &[] };
+    rungs.iter().for_each(|rung| text += &rung_line(sheet, rung));
+    text += &same_lines(sheet, cut, rungs);
+    Ok(Judged { text, reached: matches!(last, Verdict::Reached(_)) })
+}

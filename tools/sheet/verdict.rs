@@ -1,0 +1,86 @@
+// The library's verdict call, and its output buffer read. The numbers of the buffer's layout stand in this file alone.
+
+use super::card::{Card, Rule, Rung};
+
+const SET_BYTES: usize = 32;
+const RUNG_BYTES: usize = 40;
+// With this budget no sheet's work is stopped.
+const BUDGET: u32 = 256;
+
+extern "C" {
+    fn zuwendryk_verdict(sheet: *const u8, sheet_len: usize, cut: u32, budget: u32, buffer: *mut u8, buffer_len: usize) -> u32;
+}
+
+#[derive(Clone, Debug, PartialEq)]
+pub enum Verdict {
+    Reached(Vec<Rung>),
+    OutOfReach { known: usize },
+}
+
+// The answer's number, and the buffer behind it.
+fn call(sheet: &[u8], cut: u32, budget: u32) -> (u32, Vec<u8>) {
+    let mut buffer = vec![0; SET_BYTES + RUNG_BYTES * budget as usize];
+    // Both areas are slices, so neither pointer is null and they don't overlap.
+    let answer = unsafe { zuwendryk_verdict(sheet.as_ptr(), sheet.len(), cut, budget, buffer.as_mut_ptr(), buffer.len()) };
+    (answer, buffer)
+}
+
+// The entries of a set, in rising order.
+fn members(set: &[u8]) -> Vec<usize> {
+    (0..8 * set.len()).filter(|e| set[e / 8] >> (e % 8) & 1 == 1).collect()
+}
+
+fn rung(bytes: &[u8]) -> Option<Rung> {
+    let number = |at: usize| usize::from(bytes[at]) * 256 + usize::from(bytes[at + 1]);
+    let (rule, sources) = match number(2) {
+        1 => (Rule::Left, vec![number(4)]),
+        2 => (Rule::Right, vec![number(4)]),
+        3 => (Rule::Open, vec![number(4), number(6)]),
+        4 => (Rule::Join, vec![number(4), number(6)]),
+        5 => (Rule::Seal, vec![number(4), number(6)]),
+        6 => (Rule::Sum, members(&bytes[8..RUNG_BYTES])),
+        _ => return None,
+    };
+    Some(Rung { head: number(0), rule, sources })
+}
+
+// The verdict after the first `cut` messages, or the number that came back instead of one.
+pub fn verdict(sheet: &[u8], cut: u32) -> Result<Verdict, u32> {
+    let (answer, buffer) = call(sheet, cut, BUDGET);
+    let made = answer as usize % 1000;
+    match answer {
+        1000..=1256 => {
+            let rungs = buffer[SET_BYTES..].chunks(RUNG_BYTES).take(made).map(rung).collect::<Option<Vec<_>>>();
+            rungs.map(Verdict::Reached).ok_or(answer)
+        }
+        2000..=2256 => Ok(Verdict::OutOfReach { known: members(&buffer[..SET_BYTES]).len() }),
+        _ => Err(answer),
+    }
+}
+
+// The lowest-numbered entry of the same term as the first heard message: what a listener has gained who heard it and made no step.
+pub fn head_of_first(sheet: &[u8]) -> Option<usize> {
+    let (answer, buffer) = call(sheet, 1, 0);
+    if answer < 1000 { None } else { members(&buffer[..SET_BYTES]).first().copied() }
+}
+
+// The verdicts at each cut up to the first that is reached, as the program's card has them.
+pub fn verdicts(sheet: &[u8], heard: usize) -> Result<Vec<Verdict>, u32> {
+    let mut list = Vec::new();
+    for cut in 0..=heard as u32 {
+        list.push(verdict(sheet, cut)?);
+        if let Some(Verdict::Reached(_)) = list.last() {
+            break;
+        }
+    }
+    Ok(list)
+}
+
+// The card that these verdicts make.
+pub fn card(list: &[Verdict]) -> Card {
+    match list.last() {
+        Some(Verdict::Reached(rungs)) => Card::Reached { cut: list.len() - 1, rungs: rungs.clone() },
+        Some(Verdict::OutOfReach { known }) => Card::OutOfReach { known: *known },
+        None => Card::OutOfReach { known: 0 },
+    }
+}
