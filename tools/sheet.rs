@@ -28,6 +28,10 @@ mod model;
 mod output;
 #[path = "sheet/print.rs"]
 mod print;
+#[path = "sheet/rows.rs"]
+mod rows;
+#[path = "sheet/short.rs"]
+mod short;
 #[path = "sheet/svg.rs"]
 mod svg;
 #[path = "sheet/text.rs"]

@@ -92,7 +92,7 @@ usage: sheet draw [--svg | --dot] [--needed] SHEET [CARD] [-o FILE]
 
 Draws the ladder: a box for each rung and for each heard message that is used, lines from a rung's sources, the goal in gold.
 SHEET is text notation (names become labels) or sheet bytes. CARD is what zuwendryk prints for it; without it the library is
-asked. One of them may be -. A long ladder is drawn in rows; a small box stands for a term of a row above.
+asked. One of them may be -. A long ladder is drawn in rows; a small box stands for a term of an earlier part.
 
     --svg       SVG (the default)
     --dot       Graphviz text

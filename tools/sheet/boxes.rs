@@ -1,13 +1,13 @@
 // The boxes of a picture: their texts, their sizes, and their SVG.
 
 use super::card::Rule;
-use super::graph::{Kind, Node};
+use super::graph::{Kind, Node, LONGEST_TERM};
+use super::short::{clipped, columns, cut};
 
 const NAME_CHARACTER: f64 = 9.1;
 const SMALL_CHARACTER: f64 = 7.3;
 const MARGIN: f64 = 14.0;
 const LONGEST_NAME: usize = 28;
-const LONGEST_TERM: usize = 36;
 
 // A place and a size; `x` and `y` are the upper left corner.
 #[derive(Clone, Copy)]
@@ -34,28 +34,6 @@ pub fn escape(text: &str) -> String {
     out
 }
 
-// How many columns a text takes in a font of equal widths. Letters of the far east take two.
-pub fn columns(text: &str) -> usize {
-    text.chars().map(|c| if (c as u32) >= 0x1100 && !(0x2000..0x2e80).contains(&(c as u32)) { 2 } else { 1 }).sum()
-}
-
-// The text, or its beginning with three dots.
-pub fn clipped(text: &str, most: usize) -> String {
-    if columns(text) <= most {
-        return text.to_string();
-    }
-    let (mut out, mut used) = (String::new(), 1);
-    for c in text.chars() {
-        used += columns(c.encode_utf8(&mut [0; 4]));
-        if used > most {
-            break;
-        }
-        out.push(c);
-    }
-    out.push('…');
-    out
-}
-
 // A sum's term, or its first items and how many more there are.
 fn short_term(term: &str) -> String {
     let items: Vec<&str> = term.split(" ⊕ ").collect();
@@ -77,35 +55,51 @@ pub fn tag(node: &Node) -> String {
     match &node.kind {
         Kind::Heard(places) if places.len() > 4 => format!("heard {} times", places.len()),
         Kind::Heard(places) => format!("heard {}", places.iter().map(usize::to_string).collect::<Vec<_>>().join(", ")),
-        Kind::Rung(number, rule) => format!("rung {number} · {}", rule.words()),
+        // As the card's line begins, with the rung's place before it.
+        Kind::Rung(number, rule) => format!("step {number} · rung {} {}", node.entry, rule.words()),
+        Kind::Again(above) => format!("{above}, earlier"),
         Kind::Missed => "not gained".to_string(),
     }
 }
 
 // The whole node in words, for a reader without the picture.
 pub fn spoken(node: &Node) -> String {
-    let same = node.same.as_ref().map_or(String::new(), |other| format!(", the same as {other}"));
+    let same = if node.same.is_empty() { String::new() } else { format!(", the same as {}", node.same.join(" and ")) };
     let goal = if node.goal { " (goal)" } else { "" };
     format!("{}: {}{goal} = {}{same}", tag(node), node.label, node.term)
 }
 
 fn same_line(node: &Node) -> Option<String> {
-    node.same.as_ref().map(|other| clipped(&format!("same as {other}"), LONGEST_TERM))
+    let names: Vec<String> = node.same.iter().map(|name| cut(name, LONGEST_NAME)).collect();
+    (!names.is_empty()).then(|| clipped(&format!("same as {}", names.join(", ")), LONGEST_TERM))
+}
+
+// A box for a term of an earlier part doesn't show the term again.
+fn small_box(node: &Node) -> bool {
+    matches!(node.kind, Kind::Again(_))
+}
+
+// The small lines under the name.
+fn lines(node: &Node) -> Vec<String> {
+    let term = (!small_box(node)).then(|| short_term(&node.short));
+    term.into_iter().chain(same_line(node)).collect()
 }
 
 pub fn size(node: &Node) -> (f64, f64) {
     let small = |text: &str| columns(text) as f64 * SMALL_CHARACTER;
     let goal = if node.goal { 7.0 * SMALL_CHARACTER } else { 0.0 };
-    let name = columns(&clipped(&node.label, LONGEST_NAME)) as f64 * NAME_CHARACTER;
-    let same = same_line(node).map_or(0.0, |text| small(&text));
-    let widest = [small(&tag(node)) + goal, name, small(&short_term(&node.term)), same].into_iter().fold(96.0, f64::max);
-    (widest + 2.0 * MARGIN, if node.same.is_some() { 78.0 } else { 63.0 })
+    let name = columns(&cut(&node.label, LONGEST_NAME)) as f64 * NAME_CHARACTER;
+    let mut widest = (small(&tag(node)) + goal).max(name).max(if small_box(node) { 40.0 } else { 96.0 });
+    let lines = lines(node);
+    lines.iter().for_each(|text| widest = widest.max(small(text)));
+    (widest + 2.0 * MARGIN, 48.0 + 15.0 * lines.len() as f64)
 }
 
 fn class(node: &Node) -> &'static str {
     match node.kind {
         Kind::Heard(_) => "heard",
         Kind::Rung(..) => "rung",
+        Kind::Again(_) => "again",
         Kind::Missed => "missed",
     }
 }
@@ -113,6 +107,7 @@ fn class(node: &Node) -> &'static str {
 fn colour(node: &Node) -> &'static str {
     match node.kind {
         Kind::Heard(_) => "heard-ink",
+        Kind::Again(_) => "again-ink",
         Kind::Missed => "missed-ink",
         Kind::Rung(_, Rule::Left | Rule::Right) => "split-ink",
         Kind::Rung(_, Rule::Open) => "open-ink",
@@ -138,10 +133,9 @@ pub fn draw(node: &Node, area: Area, pale: bool) -> String {
     if node.goal {
         out.push_str(&text("flag", x + width - MARGIN, y + 18.0, " text-anchor=\"end\"", "GOAL"));
     }
-    out.push_str(&text("name", left, y + 37.0, "", &clipped(&node.label, LONGEST_NAME)));
-    out.push_str(&text("term", left, y + 53.0, "", &short_term(&node.term)));
-    if let Some(line) = same_line(node) {
-        out.push_str(&text("term", left, y + 68.0, "", &line));
+    out.push_str(&text("name", left, y + 37.0, "", &cut(&node.label, LONGEST_NAME)));
+    for (i, line) in lines(node).iter().enumerate() {
+        out.push_str(&text("term", left, y + 53.0 + 15.0 * i as f64, "", line));
     }
     out.push_str("</g>\n");
     out

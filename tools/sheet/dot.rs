@@ -18,7 +18,7 @@ fn quoted(text: &str) -> String {
 }
 
 fn node_line(number: usize, node: &Node) -> String {
-    let same = node.same.as_ref().map_or(String::new(), |other| format!("\nsame as {other}"));
+    let same = if node.same.is_empty() { String::new() } else { format!("\nsame as {}", node.same.join(", ")) };
     let flag = if node.goal { " (goal)" } else { "" };
     let label = quoted(&format!("{}{flag}\n{}\n{}{same}", tag(node), node.label, node.term));
     let look = match (&node.kind, node.goal) {

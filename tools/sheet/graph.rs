@@ -1,8 +1,9 @@
 // The ladder as a graph: one node for each heard message that is used and for each rung, one edge for each source of a rung.
 
-use super::card::{Card, Rule};
+use super::card::{Card, Rule, Rung};
 use super::heads::Heads;
 use super::model::{Entry, Sheet};
+use super::short::{columns, cut};
 
 #[derive(Clone, Debug, PartialEq)]
 pub enum Kind {
@@ -10,6 +11,8 @@ pub enum Kind {
     Heard(Vec<usize>),
     // The rung's place in the ladder, from 1.
     Rung(usize, Rule),
+    // A term that stands in an earlier part, and its tag there.
+    Again(String),
     // A goal that isn't gained.
     Missed,
 }
@@ -17,10 +20,14 @@ pub enum Kind {
 #[derive(Clone, Debug)]
 pub struct Node {
     pub kind: Kind,
+    // The entry whose name the node bears; a rung's is the one on the card.
+    pub entry: usize,
     pub label: String,
     pub term: String,
-    // Another entry of the same term under which the sheet knows it.
-    pub same: Option<String>,
+    // The term with its names cut to fit a box.
+    pub short: String,
+    // Other names of the same term, under which neighbours know it.
+    pub same: Vec<String>,
     pub goal: bool,
     // The goal is this node or is gained from it.
     pub needed: bool,
@@ -35,22 +42,27 @@ pub struct Edge {
     pub needed: bool,
 }
 
-#[derive(Debug)]
+// Heard messages come first, in the order heard, then the rungs in theirs. Edges are in the order of the rungs.
+#[derive(Clone, Debug, Default)]
 pub struct Graph {
     pub nodes: Vec<Node>,
     pub edges: Vec<Edge>,
+    // The whole title, and one with the goal's name cut.
     pub title: String,
+    pub heading: String,
     pub notes: Vec<String>,
     pub reached: bool,
 }
+
+pub const LONGEST_TERM: usize = 36;
+const LONGEST_GOAL: usize = 40;
 
 pub fn counted(n: usize, one: &str, many: &str) -> String {
     format!("{n} {}", if n == 1 { one } else { many })
 }
 
-// The entry's term in short, one level deep.
-fn term(sheet: &Sheet, entry: usize) -> String {
-    let label = |e: &usize| sheet.label(*e);
+// The entry's term, one level deep, with its names as `label` writes them.
+fn term(sheet: &Sheet, entry: usize, label: impl Fn(&usize) -> String) -> String {
     match &sheet.entries[entry] {
         Entry::Zero => "zero".to_string(),
         Entry::Atom(number) => format!("atom {number}"),
@@ -59,6 +71,13 @@ fn term(sheet: &Sheet, entry: usize) -> String {
         Entry::Sum(items) if items.is_empty() => "sum of nothing".to_string(),
         Entry::Sum(items) => items.iter().map(label).collect::<Vec<_>>().join(" ⊕ "),
     }
+}
+
+// The same for a box: names are cut in the middle where the whole is too long.
+fn short_term(sheet: &Sheet, entry: usize) -> String {
+    let whole = term(sheet, entry, |e| sheet.label(*e));
+    let most = if let Entry::Seal(..) = sheet.entries[entry] { 11 } else { 15 };
+    if columns(&whole) <= LONGEST_TERM { whole } else { term(sheet, entry, |e| cut(&sheet.label(*e), most)) }
 }
 
 struct Maker<'a> {
@@ -70,15 +89,30 @@ struct Maker<'a> {
 }
 
 impl Maker<'_> {
-    // A node for an entry; `shown` is the entry of the same term whose label it bears.
-    fn node(&mut self, kind: Kind, shown: usize) {
-        let (head, goal) = (self.heads.head[shown], self.sheet.goal);
-        let is_goal = self.heads.head[goal] == head;
-        let other = if is_goal && goal != shown { goal } else { head };
-        let same = (other != shown).then(|| self.sheet.heading(other));
-        let label = self.sheet.heading(shown);
+    // A node for an entry; `entry` is the one of the same term whose label it bears.
+    fn node(&mut self, kind: Kind, entry: usize) {
+        let (sheet, head) = (self.sheet, self.heads.head[entry]);
+        let goal = self.heads.head[sheet.goal] == head;
+        let other = if goal && sheet.goal != entry { sheet.goal } else { head };
+        let same = if other == entry { vec![] } else { vec![sheet.heading(other)] };
+        let (label, whole) = (sheet.heading(entry), term(sheet, entry, |e| sheet.label(*e)));
         self.node_of[head] = Some(self.nodes.len());
-        self.nodes.push(Node { kind, label, term: term(self.sheet, shown), same, goal: is_goal, needed: is_goal });
+        self.nodes.push(Node { kind, entry, label, term: whole, short: short_term(sheet, entry), same, goal, needed: goal });
+    }
+
+    // The nodes of a rung and its sources bear every name under which one of their records knows them.
+    fn name(&mut self, rung: &Rung) {
+        let heads: Vec<usize> = rung.sources.iter().copied().chain([rung.head]).collect();
+        let group: Vec<usize> = heads.iter().filter_map(|head| self.node_of[*head]).collect();
+        let named: Vec<usize> = group.iter().flat_map(|node| self.sheet.entries[self.nodes[*node].entry].parts()).collect();
+        for entry in named {
+            let node = self.node_of[self.heads.head[entry]].filter(|node| group.contains(node));
+            let name = self.sheet.heading(entry);
+            match node.map(|node| &mut self.nodes[node]) {
+                Some(node) if node.label != name && !node.same.contains(&name) => node.same.push(name),
+                _ => (),
+            }
+        }
     }
 
     // A node for each different heard message before the cut that is wanted.
@@ -126,13 +160,13 @@ fn edges(rule: Rule, sources: &[usize], to: usize, node_of: &[Option<usize>]) ->
 
 // What the picture leaves to words: dashed lines, pale rungs, and messages that aren't drawn.
 fn notes(nodes: &[Node], edges: &[Edge], unused: usize, later: usize) -> Vec<String> {
-    let spare = nodes.iter().filter(|node| matches!(node.kind, Kind::Rung(..)) && !node.needed).count();
+    let spare = spare(nodes).0;
     let mut notes = Vec::new();
     if edges.iter().any(|edge| edge.key) {
         notes.push("A dashed line brings a key.".to_string());
     }
     if spare > 0 {
-        notes.push(format!("Pale: {} that the goal doesn't need.", counted(spare, "rung", "rungs")));
+        notes.push(format!("{PALE}{} that the goal doesn't need.", counted(spare, "rung", "rungs")));
     }
     if unused > 0 {
         notes.push(format!("Not drawn: {} that no rung uses.", counted(unused, "heard message", "heard messages")));
@@ -143,7 +177,43 @@ fn notes(nodes: &[Node], edges: &[Edge], unused: usize, later: usize) -> Vec<Str
     notes
 }
 
-fn reached(mut maker: Maker, cut: usize, rungs: &[super::card::Rung]) -> Graph {
+const PALE: &str = "Pale: ";
+
+// How many rungs and how many heard messages the goal doesn't need.
+fn spare(nodes: &[Node]) -> (usize, usize) {
+    let rungs = nodes.iter().filter(|node| matches!(node.kind, Kind::Rung(..)) && !node.needed).count();
+    (rungs, nodes.iter().filter(|node| !node.needed).count() - rungs)
+}
+
+// The graph with these nodes alone, in this order.
+pub fn restrict(graph: &Graph, kept: &[usize]) -> Graph {
+    let mut place = vec![None; graph.nodes.len()];
+    kept.iter().enumerate().for_each(|(i, node)| place[*node] = Some(i));
+    let edges = graph.edges.iter().filter_map(|edge| Some(Edge { from: place[edge.from]?, to: place[edge.to]?, ..*edge }));
+    Graph { nodes: kept.iter().map(|node| graph.nodes[*node].clone()).collect(), edges: edges.collect(), ..graph.clone() }
+}
+
+// Leaves out what the goal doesn't need, and says how much that is. Without a ladder everything stays.
+pub fn needed(graph: Graph) -> Graph {
+    let (rungs, heard) = spare(&graph.nodes);
+    if !graph.reached || rungs + heard == 0 {
+        return graph;
+    }
+    let kept: Vec<usize> = (0..graph.nodes.len()).filter(|node| graph.nodes[*node].needed).collect();
+    let mut left = restrict(&graph, &kept);
+    let messages = if heard > 0 { format!(" and {}", counted(heard, "heard message", "heard messages")) } else { String::new() };
+    left.notes.retain(|note| !note.starts_with(PALE));
+    left.notes.push(format!("Left out: {}{messages} that the goal doesn't need.", counted(rungs, "rung", "rungs")));
+    left
+}
+
+// The verdict, then the goal, then how it came.
+fn titles(sheet: &Sheet, verdict: &str, rest: &str) -> (String, String) {
+    let goal = sheet.heading(sheet.goal);
+    (format!("{verdict}: {goal} {rest}"), format!("{verdict}: {} {rest}", cut(&goal, LONGEST_GOAL)))
+}
+
+fn reached(mut maker: Maker, cut: usize, rungs: &[Rung]) -> Graph {
     let (sheet, heads) = (maker.sheet, maker.heads);
     let goal = heads.head[sheet.goal];
     let used = |head: usize| head == goal || rungs.iter().any(|rung| rung.sources.contains(&head));
@@ -151,6 +221,7 @@ fn reached(mut maker: Maker, cut: usize, rungs: &[super::card::Rung]) -> Graph {
     let mut list = Vec::new();
     for (i, rung) in rungs.iter().enumerate() {
         maker.node(Kind::Rung(i + 1, rung.rule), rung.head);
+        maker.name(rung);
         list.extend(edges(rung.rule, &rung.sources, maker.nodes.len() - 1, &maker.node_of));
     }
     let mut nodes = maker.nodes;
@@ -158,8 +229,8 @@ fn reached(mut maker: Maker, cut: usize, rungs: &[super::card::Rung]) -> Graph {
     let unused = sheet.heard.iter().take(cut).filter(|entry| !used(heads.head[**entry])).count();
     let notes = notes(&nodes, &list, unused, sheet.heard.len() - cut);
     let heard = counted(cut, "heard message", "heard messages");
-    let title = format!("{} is reached after {heard}, in {}", sheet.heading(sheet.goal), counted(rungs.len(), "rung", "rungs"));
-    Graph { nodes, edges: list, title, notes, reached: true }
+    let (title, heading) = titles(sheet, "reached", &format!("after {heard}, in {}", counted(rungs.len(), "rung", "rungs")));
+    Graph { nodes, edges: list, title, heading, notes, reached: true }
 }
 
 fn missed(mut maker: Maker, known: usize) -> Graph {
@@ -167,10 +238,10 @@ fn missed(mut maker: Maker, known: usize) -> Graph {
     maker.hear(sheet.heard.len(), |_| true);
     maker.node(Kind::Missed, sheet.goal);
     let heard = counted(sheet.heard.len(), "heard message", "heard messages");
-    let title = format!("{} is out of reach after {heard}", sheet.heading(sheet.goal));
+    let (title, heading) = titles(sheet, "out of reach", &format!("after {heard}"));
     let terms = counted(heads.count(), "different term", "different terms");
     let notes = vec![format!("Known: {known} of the sheet's {terms}.")];
-    Graph { nodes: maker.nodes, edges: Vec::new(), title, notes, reached: false }
+    Graph { nodes: maker.nodes, title, heading, notes, ..Graph::default() }
 }
 
 pub fn graph(sheet: &Sheet, heads: &Heads, card: &Card) -> Graph {
@@ -179,8 +250,4 @@ pub fn graph(sheet: &Sheet, heads: &Heads, card: &Card) -> Graph {
         Card::Reached { cut, rungs } => reached(maker, *cut, rungs),
         Card::OutOfReach { known } => missed(maker, *known),
     }
-}
-
-pub fn needed(graph: Graph) -> Graph {
-    graph
 }

@@ -1,5 +1,6 @@
-// A layered layout, from left to right: the rank of a node is its longest path from the heard messages; a line that
-// passes a rank has a point there, shared by all lines of the same source, so no line runs over a box.
+// A layered layout, from left to right: the rank of a rung is its longest path from the heard messages, and a heard message stands
+// just before its first use. In a rank, heard messages keep their order. A line that passes a rank has a point there, shared by all
+// lines of the same source, so no line runs over a box.
 
 use super::graph::{Edge, Graph, Kind};
 
@@ -11,6 +12,7 @@ const SWEEPS: usize = 8;
 pub struct Cell {
     pub rank: usize,
     pub height: f64,
+    pub heard: bool,
     // The middle.
     pub y: f64,
 }
@@ -30,13 +32,25 @@ pub struct Layout {
     pub ranks: Vec<Vec<usize>>,
 }
 
+fn is_rung(graph: &Graph, node: usize) -> bool {
+    matches!(graph.nodes[node].kind, Kind::Rung(..))
+}
+
 fn rank_of(graph: &Graph) -> Vec<usize> {
-    let mut rank: Vec<usize> = graph.nodes.iter().map(|node| usize::from(matches!(node.kind, Kind::Rung(..)))).collect();
+    let mut rank: Vec<usize> = (0..graph.nodes.len()).map(|node| usize::from(is_rung(graph, node))).collect();
     // Edges are in the order of the rungs: a source's rank is final before it is read.
     for edge in &graph.edges {
         rank[edge.to] = rank[edge.to].max(rank[edge.from] + 1);
     }
-    rank
+    let mut first_use = vec![None; rank.len()];
+    for edge in &graph.edges {
+        first_use[edge.from] = first_use[edge.from].into_iter().chain([rank[edge.to]]).min();
+    }
+    for node in (0..rank.len()).filter(|node| !is_rung(graph, *node)) {
+        rank[node] = first_use[node].map_or(0, |first: usize| first - 1);
+    }
+    let least = rank.iter().min().copied().unwrap_or(0);
+    rank.iter().map(|rank| rank - least).collect()
 }
 
 // The links of one source: a chain of points through the ranks that its lines pass, and a link to each target.
@@ -51,7 +65,7 @@ fn route(layout: &mut Layout, source: usize, edges: &[Edge]) {
         }
         if rank < last {
             let point = layout.cells.len();
-            layout.cells.push(Cell { rank, height: POINT, y: 0.0 });
+            layout.cells.push(Cell { rank, height: POINT, heard: false, y: 0.0 });
             layout.ranks[rank].push(point);
             layout.links.push(Link { from: at, to: point, key: false, needed: rank < last_needed });
             at = point;
@@ -110,8 +124,9 @@ fn crossings(layout: &Layout) -> usize {
     total
 }
 
-// Orders one rank by the mean position of the neighbours. Cells without any keep their place.
-fn order(rank: &mut [usize], neighbours: &[Vec<usize>], position: &mut [usize]) {
+// Orders one rank by the mean position of the neighbours. Cells without any keep their place. Heard messages then share their
+// places out in the order heard, which is that of their numbers.
+fn order(rank: &mut [usize], cells: &[Cell], neighbours: &[Vec<usize>], position: &mut [usize]) {
     let mean = |cell: usize| {
         let list = &neighbours[cell];
         match list.len() {
@@ -121,7 +136,10 @@ fn order(rank: &mut [usize], neighbours: &[Vec<usize>], position: &mut [usize]) 
     };
     let mut keyed: Vec<(f64, usize)> = rank.iter().map(|cell| (mean(*cell), *cell)).collect();
     keyed.sort_by(|a, b| a.0.total_cmp(&b.0));
-    for (i, (_, cell)) in keyed.into_iter().enumerate() {
+    let mut heard: Vec<usize> = rank.iter().copied().filter(|cell| cells[*cell].heard).collect();
+    heard.sort_unstable_by(|a, b| b.cmp(a));
+    let ordered = keyed.into_iter().map(|(_, cell)| if cells[cell].heard { heard.pop().unwrap_or(cell) } else { cell });
+    for (i, cell) in ordered.enumerate() {
         rank[i] = cell;
         position[cell] = i;
     }
@@ -136,7 +154,7 @@ fn untangle(layout: &mut Layout) {
         let count = layout.ranks.len();
         for i in 0..count {
             let (r, list) = if sweep % 2 == 0 { (i, &before) } else { (count - 1 - i, &after) };
-            order(&mut layout.ranks[r], list, &mut position);
+            order(&mut layout.ranks[r], &layout.cells, list, &mut position);
         }
         let now = crossings(layout);
         if now < best.0 {
@@ -211,12 +229,14 @@ fn align(layout: &mut Layout) {
     layout.cells.iter_mut().for_each(|cell| cell.y -= top);
 }
 
-pub fn layout(graph: &Graph, heights: &[f64]) -> Layout {
+// Cells and links in their ranks, neither ordered nor placed.
+pub fn ranked(graph: &Graph, heights: &[f64]) -> Layout {
     let rank = rank_of(graph);
     let count = rank.iter().max().map_or(0, |most| most + 1);
     let mut layout = Layout { cells: Vec::new(), links: Vec::new(), ranks: vec![Vec::new(); count] };
     for (i, height) in heights.iter().enumerate() {
-        layout.cells.push(Cell { rank: rank[i], height: *height, y: 0.0 });
+        let heard = matches!(graph.nodes[i].kind, Kind::Heard(_));
+        layout.cells.push(Cell { rank: rank[i], height: *height, heard, y: 0.0 });
         layout.ranks[rank[i]].push(i);
     }
     for source in 0..graph.nodes.len() {
@@ -224,6 +244,17 @@ pub fn layout(graph: &Graph, heights: &[f64]) -> Layout {
         edges.sort_by_key(|edge| rank[edge.to]);
         route(&mut layout, source, &edges);
     }
+    layout
+}
+
+// The height that the fullest rank takes at least.
+pub fn least_height(layout: &Layout) -> f64 {
+    let tall = |rank: &Vec<usize>| rank.iter().map(|cell| layout.cells[*cell].height + GAP).sum::<f64>();
+    layout.ranks.iter().map(tall).fold(0.0, f64::max)
+}
+
+pub fn layout(graph: &Graph, heights: &[f64]) -> Layout {
+    let mut layout = ranked(graph, heights);
     untangle(&mut layout);
     align(&mut layout);
     layout

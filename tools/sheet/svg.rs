@@ -1,12 +1,21 @@
-// The picture of a ladder as SVG: heard messages on the left, each rung a box, lines from its sources, the goal in gold.
+// The picture of a ladder as SVG: each rung a box, heard messages before their first use, lines from its sources, the goal in gold.
+// A picture that would be too wide or too tall is drawn in parts, row under row.
 
-use super::boxes::{clipped, columns, draw, escape, size, spoken, Area};
+use super::boxes::{draw, escape, size, spoken, Area};
 use super::graph::{Graph, Kind};
-use super::layout::{layout, Layout, Link, GAP};
+use super::layout::{layout, least_height, ranked, Layout, Link, GAP};
+use super::rows::parts;
+use super::short::{clipped, columns};
 
 const EDGE: f64 = 28.0;
 const HEAD: f64 = 72.0;
 const LONGEST_HEADING: usize = 110;
+// A picture of this width is read in a browser without moving it sideways.
+const MOST_WIDTH: f64 = 1280.0;
+const MOST_HEIGHT: f64 = 760.0;
+// The space around a part, and over it for its caption.
+const INNER: f64 = 16.0;
+const CAPTION: f64 = 30.0;
 
 const STYLE: &str = "\
 text{font-family:'DejaVu Sans Mono',Menlo,Consolas,'Liberation Mono',monospace;font-size:12px;fill:#4a5261}
@@ -18,6 +27,8 @@ text{font-family:'DejaVu Sans Mono',Menlo,Consolas,'Liberation Mono',monospace;f
 .paper{fill:#fbfaf6;stroke:#d9d5c8}
 rect{fill:#fff;stroke:#8b94a6;stroke-width:1.2}
 .heard rect{fill:#e9f1fc;stroke:#7d9fd0}
+.again rect{fill:#f4f2ec;stroke:#a8adb8;stroke-dasharray:3 3}
+.panel{fill:#fdfdfb;stroke:#e3dfd2}
 .missed rect{fill:#fdecea;stroke:#c0392b;stroke-width:2.2;stroke-dasharray:7 4}
 .goal:not(.missed) rect{fill:#fff2c2;stroke:#c98a00;stroke-width:2.6}
 .bar{fill:none;stroke-width:3.5;stroke-linecap:round}
@@ -30,6 +41,7 @@ g.pale{opacity:.5}
 .wall{fill:none;stroke:#c0392b;stroke-width:1.6;stroke-dasharray:3 6}
 .stop{font-family:'Segoe UI','Helvetica Neue','DejaVu Sans',Arial,sans-serif;font-size:17px;font-weight:600;fill:#b03022}
 text.heard-ink{fill:#2f5c9e}path.heard-ink{stroke:#5b87c9}
+text.again-ink{fill:#6b7280}path.again-ink{stroke:#a8adb8}
 text.missed-ink{fill:#b03022}path.missed-ink{stroke:#c0392b}
 text.split-ink{fill:#0d6e6e}path.split-ink{stroke:#1d9a9a}
 text.open-ink{fill:#a04a00}path.open-ink{stroke:#dd7a1f}
@@ -38,11 +50,11 @@ text.seal-ink{fill:#a12a5e}path.seal-ink{stroke:#d2558c}
 text.sum-ink{fill:#2c6e2f}path.sum-ink{stroke:#4f9f53}
 ";
 
-// The left edge and the width of each rank's column.
+// The left edge and the width of each rank's column, from 0 on.
 fn column_places(layout: &Layout, sizes: &[(f64, f64)]) -> Vec<(f64, f64)> {
     let mut links = vec![0usize; layout.ranks.len()];
     layout.links.iter().for_each(|link| links[layout.cells[link.from].rank] += 1);
-    let mut x = EDGE;
+    let mut x = 0.0;
     let mut places = Vec::new();
     for (r, rank) in layout.ranks.iter().enumerate() {
         let width = rank.iter().filter_map(|cell| sizes.get(*cell)).map(|size| size.0).fold(8.0, f64::max);
@@ -71,10 +83,10 @@ fn ports(layout: &Layout, boxes: usize) -> Vec<f64> {
     port
 }
 
-fn line(layout: &Layout, link: &Link, port: f64, columns: &[(f64, f64)], boxes: usize) -> String {
+fn line(layout: &Layout, link: &Link, port: f64, columns: &[(f64, f64)], boxes: usize, (x, y): (f64, f64)) -> String {
     let (from, to) = (&layout.cells[link.from], &layout.cells[link.to]);
-    let (x1, y1) = (columns[from.rank].0 + columns[from.rank].1, from.y + HEAD);
-    let (x2, y2) = (columns[to.rank].0, port + HEAD);
+    let (x1, y1) = (x + columns[from.rank].0 + columns[from.rank].1, y + from.y);
+    let (x2, y2) = (x + columns[to.rank].0, y + port);
     let pale = if link.needed { "" } else { " pale" };
     let key = if link.key { " key" } else { "" };
     let is_box = link.to < boxes;
@@ -90,8 +102,8 @@ fn line(layout: &Layout, link: &Link, port: f64, columns: &[(f64, f64)], boxes: 
 }
 
 // A finished picture: its body inside the frame, with title and notes.
-pub fn frame(graph: &Graph, body: &str, width: f64, bottom: f64) -> String {
-    let heading = clipped(&graph.title, LONGEST_HEADING);
+fn frame(graph: &Graph, body: &str, width: f64, bottom: f64) -> String {
+    let heading = clipped(&graph.heading, LONGEST_HEADING);
     let widest = graph.notes.iter().map(|note| columns(note) as f64 * 7.4).fold(columns(&heading) as f64 * 11.6, f64::max);
     let width = width.max(widest + 2.0 * EDGE);
     let height = bottom + 14.0 + graph.notes.len() as f64 * 19.0 + EDGE;
@@ -110,27 +122,102 @@ pub fn frame(graph: &Graph, body: &str, width: f64, bottom: f64) -> String {
     out
 }
 
-fn ladder(graph: &Graph) -> String {
+// A part of the ladder, laid out.
+struct Part<'a> {
+    graph: &'a Graph,
+    sizes: Vec<(f64, f64)>,
+    layout: Layout,
+    columns: Vec<(f64, f64)>,
+}
+
+fn width_of(columns: &[(f64, f64)]) -> f64 {
+    columns.last().map_or(0.0, |(x, width)| x + width)
+}
+
+fn fits(graph: &Graph) -> bool {
     let sizes: Vec<(f64, f64)> = graph.nodes.iter().map(size).collect();
-    let heights: Vec<f64> = sizes.iter().map(|size| size.1).collect();
-    let layout = layout(graph, &heights);
-    let columns = column_places(&layout, &sizes);
-    let ports = ports(&layout, sizes.len());
-    let mut body = String::new();
-    // Needed lines are drawn over pale ones.
-    for needed in [false, true] {
-        for (link, port) in layout.links.iter().zip(&ports).filter(|(link, _)| link.needed == needed) {
-            body.push_str(&line(&layout, link, *port, &columns, sizes.len()));
+    let layout = ranked(graph, &sizes.iter().map(|size| size.1).collect::<Vec<_>>());
+    let room = MOST_WIDTH - 2.0 * (EDGE + INNER);
+    width_of(&column_places(&layout, &sizes)) <= room && least_height(&layout) <= MOST_HEIGHT
+}
+
+impl Part<'_> {
+    fn of(graph: &Graph) -> Part<'_> {
+        let sizes: Vec<(f64, f64)> = graph.nodes.iter().map(size).collect();
+        let layout = layout(graph, &sizes.iter().map(|size| size.1).collect::<Vec<_>>());
+        let columns = column_places(&layout, &sizes);
+        Part { graph, sizes, layout, columns }
+    }
+
+    fn width(&self) -> f64 {
+        width_of(&self.columns)
+    }
+
+    fn height(&self) -> f64 {
+        self.layout.cells.iter().map(|cell| cell.y + cell.height / 2.0).fold(0.0, f64::max)
+    }
+
+    // Boxes and lines, with the upper left corner at this place.
+    fn draw(&self, (x, y): (f64, f64)) -> String {
+        let ports = ports(&self.layout, self.sizes.len());
+        let mut body = String::new();
+        // Needed lines are drawn over pale ones.
+        for needed in [false, true] {
+            for (link, port) in self.layout.links.iter().zip(&ports).filter(|(link, _)| link.needed == needed) {
+                body.push_str(&line(&self.layout, link, *port, &self.columns, self.sizes.len(), (x, y)));
+            }
+        }
+        for (node, cell) in self.graph.nodes.iter().zip(&self.layout.cells) {
+            let (left, width) = self.columns[cell.rank];
+            let area = Area { x: x + left, y: y + cell.y - cell.height / 2.0, width, height: cell.height };
+            body.push_str(&draw(node, area, !node.needed));
+        }
+        body
+    }
+
+    // The steps of the part.
+    fn caption(&self) -> String {
+        let steps: Vec<usize> = self.graph.nodes.iter().filter_map(|node| if let Kind::Rung(step, _) = node.kind { Some(step) } else { None }).collect();
+        match (steps.first(), steps.last()) {
+            (Some(first), Some(last)) if first < last => format!("steps {first} to {last}"),
+            (Some(first), _) => format!("step {first}"),
+            _ => String::new(),
         }
     }
-    for (node, cell) in graph.nodes.iter().zip(&layout.cells) {
-        let (x, width) = columns[cell.rank];
-        let area = Area { x, y: cell.y - cell.height / 2.0 + HEAD, width, height: cell.height };
-        body.push_str(&draw(node, area, !node.needed));
+
+    // The part on a sheet of its own, with its caption.
+    fn panel(&self, (x, y): (f64, f64)) -> String {
+        let (width, height) = (self.width() + 2.0 * INNER, self.height() + CAPTION + INNER);
+        let mut out = format!("<rect class=\"panel\" x=\"{x:.1}\" y=\"{y:.1}\" width=\"{width:.1}\" height=\"{height:.1}\" rx=\"8\"/>\n");
+        out.push_str(&format!("<text class=\"note\" x=\"{:.1}\" y=\"{:.1}\">{}</text>\n", x + INNER, y + 20.0, self.caption()));
+        out.push_str(&self.draw((x + INNER, y + CAPTION)));
+        out
     }
-    let right = columns.last().map_or(0.0, |(x, width)| x + width);
-    let bottom = layout.cells.iter().map(|cell| cell.y + cell.height / 2.0).fold(0.0, f64::max);
-    frame(graph, &body, right + EDGE, bottom + HEAD)
+}
+
+fn ladder(graph: &Graph) -> String {
+    let graphs = parts(graph, fits);
+    let laid: Vec<Part> = graphs.iter().map(Part::of).collect();
+    if let [part] = &laid[..] {
+        return frame(graph, &part.draw((EDGE, HEAD)), part.width() + 2.0 * EDGE, part.height() + HEAD);
+    }
+    let (mut x, mut y, mut right, mut bottom) = (EDGE, HEAD, 0.0f64, HEAD);
+    let mut body = String::new();
+    for part in &laid {
+        let (width, height) = (part.width() + 2.0 * INNER, part.height() + CAPTION + INNER);
+        if x > EDGE && x + width + EDGE > MOST_WIDTH {
+            (x, y) = (EDGE, bottom + GAP);
+        }
+        body.push_str(&part.panel((x, y)));
+        right = right.max(x + width);
+        bottom = bottom.max(y + height);
+        x += width + GAP;
+    }
+    let mut noted = graph.clone();
+    if graphs.iter().any(|part| part.nodes.iter().any(|node| matches!(node.kind, Kind::Again(_)))) {
+        noted.notes.insert(0, "A small dashed box stands for a term that an earlier part has.".to_string());
+    }
+    frame(&noted, &body, right + EDGE, bottom)
 }
 
 // Heard messages in columns, a wall, and the goal behind it.
@@ -139,7 +226,9 @@ fn apart(graph: &Graph) -> String {
     let width = sizes.iter().map(|size| size.0).fold(0.0, f64::max);
     let height = sizes.iter().map(|size| size.1).fold(0.0, f64::max);
     let heard = graph.nodes.iter().filter(|node| node.kind != Kind::Missed).count();
-    let rows = ((heard as f64 * 1.6).sqrt().ceil() as usize).clamp(1, heard.max(1));
+    let room = ((MOST_WIDTH - 2.0 * EDGE - width - 98.0) / (width + GAP)).max(1.0) as usize;
+    let square = ((heard as f64 * 1.6).sqrt().ceil() as usize).clamp(1, heard.max(1));
+    let rows = square.max((heard + room - 1) / room);
     let shelves = (heard + rows - 1) / rows;
     let wall = EDGE + shelves as f64 * (width + GAP) + 40.0;
     let bottom = HEAD + (rows as f64 * (height + GAP) - GAP).max(120.0);
