@@ -1,39 +1,27 @@
-// The tool `sheet`: round trips, every message with its place, nothing written on bad input, pictures and damaged cards.
-// The tool's path is the first argument. Most round trips and pictures run in this process, the rest through the tool.
+// The tool `sheet`: round trips, every message with its place, nothing written on bad input, damaged cards.
+// The tool's path is the first argument. Most round trips run in this process, the rest through the tool.
 
+mod cards;
 mod plain;
 #[allow(dead_code)] // each test uses a part
 mod sheets;
 
-#[path = "../tools/sheet/boxes.rs"]
-mod boxes;
 #[allow(dead_code)]
 #[path = "../tools/sheet/bytes.rs"]
 mod bytes;
-#[path = "../tools/sheet/card.rs"]
-mod card;
-#[path = "../tools/sheet/dot.rs"]
-mod dot;
-#[allow(dead_code)]
-#[path = "../tools/sheet/graph.rs"]
-mod graph;
-#[path = "../tools/sheet/heads.rs"]
-mod heads;
-#[path = "../tools/sheet/layout.rs"]
-mod layout;
 #[allow(dead_code)]
 #[path = "../tools/sheet/model.rs"]
 mod model;
 #[path = "../tools/sheet/print.rs"]
 mod print;
-#[path = "../tools/sheet/svg.rs"]
-mod svg;
+#[allow(dead_code)]
 #[path = "../tools/sheet/text.rs"]
 mod text;
 #[path = "../tools/sheet/words.rs"]
 mod words;
 
-use sheets::{damage, random_entries, refusal, sheet, Entry, Random};
+use cards::{card_of, large, random_sheet};
+use sheets::{damage, refusal, sheet, Entry, Random};
 use std::fs;
 use std::io::Write;
 use std::path::{Path, PathBuf};
@@ -97,60 +85,6 @@ const TEXT_A: &str = "key atom 7\nmask atom 9\nmasked sum key mask\nsession atom
 fn sheet_a() -> Vec<u8> {
     use Entry::*;
     sheet(&[Atom(7), Atom(9), Sum(vec![0, 1]), Atom(12), Seal(3, 0)], &[2, 4, 1], 3)
-}
-
-// One rung of the output buffer as a line of the card.
-fn rung_line(rung: &[u8]) -> String {
-    let number = |at: usize| u16::from_be_bytes([rung[at], rung[at + 1]]);
-    let words = ["", "left", "right", "open", "join", "seal", "sum"];
-    let rule = usize::from(number(2));
-    let sources: Vec<u16> = match rule {
-        1 | 2 => vec![number(4)],
-        3..=5 => vec![number(4), number(6)],
-        _ => (0..256u16).filter(|e| rung[8 + usize::from(e / 8)] >> (e % 8) & 1 == 1).collect(),
-    };
-    let list: String = sources.iter().map(|source| format!(" {source}")).collect();
-    format!("rung {} {}{list}\n", number(0), words[rule])
-}
-
-// The card of a good sheet, by the plain verdict.
-fn card_of(sheet: &[u8]) -> String {
-    let number = |at: usize| u32::from(u16::from_be_bytes([sheet[at], sheet[at + 1]]));
-    let mut text = format!("goal {} heard {}\n", number(8), number(6));
-    let mut buffer = vec![0; 32 + 40 * 256];
-    for cut in 0..=number(6) {
-        let answer = plain::verdict(sheet, cut, 256, &mut buffer);
-        if answer >= 2000 {
-            let known: u32 = buffer[..32].iter().map(|byte| byte.count_ones()).sum();
-            text += &format!("cut {cut} out of reach known {known}\n");
-            continue;
-        }
-        text += &format!("cut {cut} reached rungs {}\n", answer - 1000);
-        buffer[32..].chunks(40).take(answer as usize - 1000).for_each(|rung| text += &rung_line(rung));
-        break;
-    }
-    text
-}
-
-// A good sheet with many entries, long sums and many heard messages.
-fn large(r: &mut Random) -> Vec<u8> {
-    let n = 200 + r.below(57);
-    let entries: Vec<Entry> = (0..n)
-        .map(|i| match (i, r.below(4)) {
-            (0, _) | (_, 0) => Entry::Atom(r.below(65536) as u16),
-            (_, 1) => Entry::Pair(r.below(i) as u16, r.below(i) as u16),
-            (_, 2) => Entry::Seal(r.below(i) as u16, r.below(i) as u16),
-            _ => Entry::Sum((0..r.below(65)).map(|_| r.below(i) as u16).collect()),
-        })
-        .collect();
-    let heard: Vec<u16> = (0..r.below(257)).map(|_| r.below(n) as u16).collect();
-    sheet(&entries, &heard, r.below(n) as u16)
-}
-
-fn random_sheet(r: &mut Random) -> Vec<u8> {
-    let most = [3, 9, 20, 60][r.below(4) as usize];
-    let (entries, heard, goal) = random_entries(r, most);
-    sheet(&entries, &heard, goal)
 }
 
 fn round_trips(c: &mut Checks) {
@@ -320,137 +254,6 @@ fn usage(c: &mut Checks) {
     c.fails(&["assemble", "-o", "no/such/place"], TEXT_A.as_bytes(), 1, "no/such/place: can't be written", &[]);
 }
 
-// Tags are balanced, attributes quoted, and every & begins an entity.
-fn well_formed(text: &str) -> bool {
-    let mut open: Vec<&str> = Vec::new();
-    let mut parts = text.split('<');
-    let entities = |s: &str| s.split('&').skip(1).all(|rest| ["amp;", "lt;", "gt;", "quot;", "#39;"].iter().any(|e| rest.starts_with(e)));
-    if !entities(text) || !parts.next().unwrap_or("").trim().is_empty() {
-        return false;
-    }
-    for part in parts {
-        // A part without its > has an empty name, which is a fault below.
-        let (tag, after) = part.split_once('>').unwrap_or(("", ""));
-        let name = tag.split([' ', '/']).next().unwrap_or("");
-        if let Some(closed) = tag.strip_prefix('/') {
-            if open.pop() != Some(closed) {
-                return false;
-            }
-        } else if tag.matches('"').count() % 2 == 1 || name.is_empty() {
-            return false;
-        } else if !tag.ends_with('/') {
-            open.push(name);
-        }
-        if after.contains('>') || (open.is_empty() && !after.trim().is_empty()) {
-            return false;
-        }
-    }
-    open.is_empty()
-}
-
-// The corners of every box: left, top, right, bottom.
-fn areas(picture: &str) -> Vec<[f64; 4]> {
-    let boxes = picture.split("<g class=").skip(1).filter_map(|group| group.split("<rect").nth(1)?.split('>').next());
-    boxes.filter_map(area).collect()
-}
-
-fn area(tag: &str) -> Option<[f64; 4]> {
-    let value = |name: &str| tag.split(&format!(" {name}=\"")).nth(1)?.split('"').next()?.parse::<f64>().ok();
-    let (x, y) = (value("x")?, value("y")?);
-    Some([x, y, x + value("width")?, y + value("height")?])
-}
-
-fn apart(areas: &[[f64; 4]]) -> bool {
-    let clear = |a: &[f64; 4], b: &[f64; 4]| a[2] < b[0] || b[2] < a[0] || a[3] < b[1] || b[3] < a[1];
-    areas.iter().enumerate().all(|(i, a)| areas[..i].iter().all(|b| clear(a, b)))
-}
-
-fn pictured(bytes: &[u8], card: &str) -> Result<(String, String), String> {
-    let sheet = bytes::decode(bytes).map_err(|n| n.to_string())?;
-    let heads = heads::Heads::of(&sheet);
-    let card = card::parse(card.as_bytes(), &sheet, &heads).map_err(|fault| fault.message)?;
-    let graph = graph::graph(&sheet, &heads, &card);
-    Ok((svg::svg(&graph), dot::dot(&graph)))
-}
-
-// A picture has a box a rung, names each rung's head, and no boxes overlap.
-fn shows(c: &mut Checks, picture: &str, card: &str) {
-    let rungs: Vec<&str> = card.lines().filter_map(|line| line.strip_prefix("rung ")).collect();
-    c.check("a picture is well formed", well_formed(picture));
-    c.check("a box a rung", picture.matches("<g class=\"rung").count() == rungs.len());
-    for (i, rung) in rungs.iter().enumerate() {
-        let head = rung.split(' ').next().unwrap_or("");
-        let rule = rung.split(' ').nth(1).unwrap_or("").replace("left", "split left").replace("right", "split right");
-        let start = format!("<title>rung {} · {rule}: entry {head} ", i + 1);
-        c.check(&format!("rung {rung} is named"), picture.contains(&start));
-    }
-    c.check("one goal", picture.matches(">GOAL</text>").count() == 1);
-    c.check("boxes are apart", apart(&areas(picture)));
-    c.check("out of reach is said", picture.contains(">out of reach</text>") != card.contains("reached"));
-}
-
-// The different sources of each rung, counted over the card.
-fn sources(card: &str) -> usize {
-    let rungs = card.lines().filter(|line| line.starts_with("rung "));
-    rungs.map(|line| line.split(' ').skip(3).collect::<std::collections::BTreeSet<_>>().len()).sum()
-}
-
-fn pictures(c: &mut Checks) {
-    let mut r = Random(0xd1b54a32d192ed03);
-    for i in 0..600 {
-        let bytes = if i % 100 == 0 { large(&mut r) } else { random_sheet(&mut r) };
-        let card = card_of(&bytes);
-        match pictured(&bytes, &card) {
-            Ok((svg, dot)) => {
-                shows(c, &svg, &card);
-                c.check("a node a rung in dot", dot.matches("[label=\"rung ").count() == card.matches("rung ").count());
-                c.check("an edge a source in dot", dot.matches(" -> ").count() == sources(&card));
-            }
-            Err(message) => c.check(&format!("{card}: {message}"), false),
-        }
-    }
-    // The longest ladder: pairs on pairs on zero.
-    let chain: Vec<Entry> = (0..256u16).map(|i| if i == 0 { Entry::Zero } else { Entry::Pair(i - 1, i.saturating_sub(9)) }).collect();
-    let bytes = sheet(&chain, &[], 255);
-    let card = card_of(&bytes);
-    c.check("256 rungs", card.contains("rungs 256"));
-    match pictured(&bytes, &card) {
-        Ok((svg, _)) => shows(c, &svg, &card),
-        Err(message) => c.check(&message, false),
-    }
-}
-
-fn pictures_by_the_tool(c: &mut Checks) {
-    let card = card_of(&sheet_a());
-    c.file("a.sheet", TEXT_A.as_bytes());
-    c.file("a.bytes", &sheet_a());
-    c.file("a.card", card.as_bytes());
-    let svg = c.run(&["draw", "a.sheet", "a.card"], b"");
-    let text = String::from_utf8_lossy(&svg.out).into_owned();
-    c.check("sheet A is drawn", svg.status == 0 && well_formed(&text) && text.matches("<g class=\"rung").count() == 2);
-    let wanted = [
-        "session is reached after 3 heard messages, in 2 rungs",
-        "rung 1 · sum: key = atom 7",
-        "rung 2 · open: session (goal) = atom 12",
-        "<g class=\"rung goal\">",
-    ];
-    c.check("sheet A's names are shown", wanted.iter().all(|part| text.contains(part)));
-    let piped = c.run(&["draw", "--svg", "a.bytes", "-", "-o", "a.svg"], card.as_bytes());
-    let written = String::from_utf8(c.content("a.svg").unwrap_or_default()).unwrap_or_default();
-    c.check("a card from standard input", piped.status == 0 && piped.out.is_empty());
-    shows(c, &written, &card);
-    let dot = c.run(&["draw", "--dot", "a.sheet", "a.card"], b"");
-    let text = String::from_utf8_lossy(&dot.out).into_owned();
-    let named = text.contains("rung 2 · open (goal)\\nsession\\natom 12");
-    c.check("dot", dot.status == 0 && text.starts_with("digraph") && text.matches(" -> ").count() == 4 && named);
-    let lone = "a atom 1\ns seal a a\nheard s\ngoal a\n";
-    c.file("lone.sheet", lone.as_bytes());
-    let missed = c.run(&["draw", "lone.sheet", "-"], b"goal 0 heard 1\ncut 0 out of reach known 0\ncut 1 out of reach known 1\n");
-    let text = String::from_utf8_lossy(&missed.out).into_owned();
-    let said = text.contains(">out of reach</text>") && text.contains("Known: 1 of the sheet&#39;s 2 different terms");
-    c.check("out of reach is drawn", missed.status == 0 && well_formed(&text) && said);
-}
-
 fn bad_cards(c: &mut Checks) {
     let card = card_of(&sheet_a());
     c.file("a.sheet", TEXT_A.as_bytes());
@@ -481,51 +284,6 @@ fn bad_cards(c: &mut Checks) {
     c.fails(&["draw", "a.sheet", "missing.card"], b"", 1, "missing.card: can't be read", &[]);
 }
 
-// A rung with other sources or another rule doesn't follow.
-fn wrong_rungs(c: &mut Checks) {
-    use Entry::*;
-    let bytes = sheet(&[Atom(1), Atom(2), Pair(1, 0), Pair(2, 2), Seal(3, 0), Sum(vec![0, 1]), Pair(4, 5), Seal(6, 1)], &[4, 0], 7);
-    let card = card_of(&bytes);
-    c.check("a card with each rule", pictured(&bytes, &card).is_ok());
-    let edits = [
-        ("3 open 4 0", "3 open 4 4"),
-        ("3 open 4 0", "3 open 0 4"),
-        ("3 open 4 0", "3 open 4"),
-        ("2 left 3", "2 left 4"),
-        ("2 left 3", "2 left 3 3"),
-        ("1 left 2", "1 right 2"),
-        ("5 sum 0 1", "5 sum 1 0"),
-        ("5 sum 0 1", "5 sum 0 1 2"),
-        ("5 sum 0 1", "5 sum"),
-        ("6 join 4 5", "6 join 5 4"),
-        ("6 join 4 5", "6 seal 4 5"),
-        ("7 seal 6 1", "7 seal 6 0"),
-        ("7 seal 6 1", "7 seal 5 1"),
-        ("7 seal 6 1", "7 join 6 1"),
-    ];
-    for (right, wrong) in edits {
-        let refused = pictured(&bytes, &card.replace(right, wrong)).map_or_else(|message| message.contains("doesn't follow by"), |_| false);
-        c.check(&format!("rung {wrong} in place of {right}"), card.contains(right) && refused);
-    }
-    c.check("XML is escaped", boxes::escape("<a & \"b\" 'c'>") == "&lt;a &amp; &quot;b&quot; &#39;c&#39;&gt;");
-}
-
-// Every beginning of a card is cut short; cards with changed bytes are drawn or refused, never a crash.
-fn hurt_cards(c: &mut Checks) {
-    let mut r = Random(0x2545f4914f6cdd1d);
-    for _ in 0..60 {
-        let bytes = random_sheet(&mut r);
-        let card = card_of(&bytes);
-        let refused = (0..card.len()).all(|end| pictured(&bytes, &card[..end]).is_err());
-        c.check(&format!("every beginning is refused of\n{card}"), refused);
-        for _ in 0..40 {
-            let hurt = String::from_utf8_lossy(&damage(&mut r, card.clone().into_bytes())).into_owned();
-            let fine = pictured(&bytes, &hurt).map_or(true, |(svg, _)| well_formed(&svg));
-            c.check("a hurt card", fine);
-        }
-    }
-}
-
 fn main() {
     let tool = std::env::args().nth(1).expect("the tool's path");
     let tool = Path::new(&tool).canonicalize().expect("the tool is there").to_string_lossy().into_owned();
@@ -537,11 +295,7 @@ fn main() {
     text_faults(&mut c);
     refused_sheets(&mut c);
     usage(&mut c);
-    pictures(&mut c);
-    pictures_by_the_tool(&mut c);
     bad_cards(&mut c);
-    wrong_rungs(&mut c);
-    hurt_cards(&mut c);
     let _ = fs::remove_dir_all(&dir);
     println!("tools: {} passed, {} failed", c.passed, c.failed);
     if c.failed > 0 {

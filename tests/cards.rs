@@ -1,0 +1,58 @@
+// Random good sheets, and the card of a sheet by the plain verdict. Shared by the tests of the tool.
+
+use super::plain;
+use super::sheets::{random_entries, sheet, Entry, Random};
+
+// One rung of the output buffer as a line of the card.
+fn rung_line(rung: &[u8]) -> String {
+    let number = |at: usize| u16::from_be_bytes([rung[at], rung[at + 1]]);
+    let words = ["", "left", "right", "open", "join", "seal", "sum"];
+    let rule = usize::from(number(2));
+    let sources: Vec<u16> = match rule {
+        1 | 2 => vec![number(4)],
+        3..=5 => vec![number(4), number(6)],
+        _ => (0..256u16).filter(|e| rung[8 + usize::from(e / 8)] >> (e % 8) & 1 == 1).collect(),
+    };
+    let list: String = sources.iter().map(|source| format!(" {source}")).collect();
+    format!("rung {} {}{list}\n", number(0), words[rule])
+}
+
+// The card of a good sheet, by the plain verdict.
+pub fn card_of(sheet: &[u8]) -> String {
+    let number = |at: usize| u32::from(u16::from_be_bytes([sheet[at], sheet[at + 1]]));
+    let mut text = format!("goal {} heard {}\n", number(8), number(6));
+    let mut buffer = vec![0; 32 + 40 * 256];
+    for cut in 0..=number(6) {
+        let answer = plain::verdict(sheet, cut, 256, &mut buffer);
+        if answer >= 2000 {
+            let known: u32 = buffer[..32].iter().map(|byte| byte.count_ones()).sum();
+            text += &format!("cut {cut} out of reach known {known}\n");
+            continue;
+        }
+        text += &format!("cut {cut} reached rungs {}\n", answer - 1000);
+        buffer[32..].chunks(40).take(answer as usize - 1000).for_each(|rung| text += &rung_line(rung));
+        break;
+    }
+    text
+}
+
+// A good sheet with many entries, long sums and many heard messages.
+pub fn large(r: &mut Random) -> Vec<u8> {
+    let n = 200 + r.below(57);
+    let entries: Vec<Entry> = (0..n)
+        .map(|i| match (i, r.below(4)) {
+            (0, _) | (_, 0) => Entry::Atom(r.below(65536) as u16),
+            (_, 1) => Entry::Pair(r.below(i) as u16, r.below(i) as u16),
+            (_, 2) => Entry::Seal(r.below(i) as u16, r.below(i) as u16),
+            _ => Entry::Sum((0..r.below(65)).map(|_| r.below(i) as u16).collect()),
+        })
+        .collect();
+    let heard: Vec<u16> = (0..r.below(257)).map(|_| r.below(n) as u16).collect();
+    sheet(&entries, &heard, r.below(n) as u16)
+}
+
+pub fn random_sheet(r: &mut Random) -> Vec<u8> {
+    let most = [3, 9, 20, 60][r.below(4) as usize];
+    let (entries, heard, goal) = random_entries(r, most);
+    sheet(&entries, &heard, goal)
+}

@@ -1,0 +1,377 @@
+// The tool's pictures: a box a rung and a line a source, nothing over anything, no wider than a browser's window, heard messages in
+// order and beside their first use; cards that are wrong or damaged give none. The tool's path is the first argument.
+
+mod cards;
+mod plain;
+#[allow(dead_code)] // each test uses a part
+mod sheets;
+
+#[path = "../tools/sheet/boxes.rs"]
+mod boxes;
+#[allow(dead_code)]
+#[path = "../tools/sheet/bytes.rs"]
+mod bytes;
+#[path = "../tools/sheet/card.rs"]
+mod card;
+#[path = "../tools/sheet/dot.rs"]
+mod dot;
+#[path = "../tools/sheet/graph.rs"]
+mod graph;
+#[path = "../tools/sheet/heads.rs"]
+mod heads;
+#[path = "../tools/sheet/layout.rs"]
+mod layout;
+#[path = "../tools/sheet/model.rs"]
+mod model;
+#[path = "../tools/sheet/rows.rs"]
+mod rows;
+#[path = "../tools/sheet/short.rs"]
+mod short;
+#[path = "../tools/sheet/svg.rs"]
+mod svg;
+#[path = "../tools/sheet/words.rs"]
+mod words;
+
+use cards::{card_of, large, random_sheet};
+use sheets::{damage, sheet, Entry, Random};
+use std::collections::BTreeSet;
+use std::io::Write;
+use std::path::PathBuf;
+use std::process::{Command, Stdio};
+
+const MOST_WIDTH: f64 = 1280.0;
+
+struct Checks {
+    tool: PathBuf,
+    passed: usize,
+    failed: usize,
+}
+
+impl Checks {
+    fn check(&mut self, what: &str, holds: bool) {
+        if holds {
+            self.passed += 1;
+        } else {
+            self.failed += 1;
+            println!("failed: {what}");
+        }
+    }
+
+    // What the tool prints for a sheet on its standard input; nothing if it fails.
+    fn draws(&self, words: &[&str], input: &[u8]) -> String {
+        let mut command = Command::new(&self.tool);
+        command.arg("draw").args(words).stdin(Stdio::piped()).stdout(Stdio::piped()).stderr(Stdio::null());
+        let mut child = command.spawn().expect("the tool starts");
+        let _ = child.stdin.take().map(|mut stdin| stdin.write_all(input));
+        let done = child.wait_with_output().expect("the tool ends");
+        if done.status.success() { String::from_utf8_lossy(&done.stdout).into_owned() } else { String::new() }
+    }
+}
+
+const TEXT_A: &str = "key atom 7\nmask atom 9\nmasked sum key mask\nsession atom 12\nbox seal session key\nheard masked box mask\ngoal session\n";
+
+// Tags are balanced, attributes quoted, and every & begins an entity.
+fn well_formed(text: &str) -> bool {
+    let mut open: Vec<&str> = Vec::new();
+    let mut parts = text.split('<');
+    let entities = |s: &str| s.split('&').skip(1).all(|rest| ["amp;", "lt;", "gt;", "quot;", "#39;"].iter().any(|e| rest.starts_with(e)));
+    if !entities(text) || !parts.next().unwrap_or("").trim().is_empty() {
+        return false;
+    }
+    for part in parts {
+        // A part without its > has an empty name, which is a fault below.
+        let (tag, after) = part.split_once('>').unwrap_or(("", ""));
+        let name = tag.split([' ', '/']).next().unwrap_or("");
+        if let Some(closed) = tag.strip_prefix('/') {
+            if open.pop() != Some(closed) {
+                return false;
+            }
+        } else if tag.matches('"').count() % 2 == 1 || name.is_empty() {
+            return false;
+        } else if !tag.ends_with('/') {
+            open.push(name);
+        }
+        if after.contains('>') || (open.is_empty() && !after.trim().is_empty()) {
+            return false;
+        }
+    }
+    open.is_empty()
+}
+
+// The corners of every box: left, top, right, bottom.
+fn areas(picture: &str) -> Vec<[f64; 4]> {
+    let boxes = picture.split("<g class=").skip(1).filter_map(|group| group.split("<rect").nth(1)?.split('>').next());
+    boxes.filter_map(area).collect()
+}
+
+fn area(tag: &str) -> Option<[f64; 4]> {
+    let value = |name: &str| tag.split(&format!(" {name}=\"")).nth(1)?.split('"').next()?.parse::<f64>().ok();
+    let (x, y) = (value("x")?, value("y")?);
+    Some([x, y, x + value("width")?, y + value("height")?])
+}
+
+fn apart(areas: &[[f64; 4]]) -> bool {
+    let clear = |a: &[f64; 4], b: &[f64; 4]| a[2] < b[0] || b[2] < a[0] || a[3] < b[1] || b[3] < a[1];
+    areas.iter().enumerate().all(|(i, a)| areas[..i].iter().all(|b| clear(a, b)))
+}
+
+fn graph_of(bytes: &[u8], card: &str) -> Result<graph::Graph, String> {
+    let sheet = bytes::decode(bytes).map_err(|n| n.to_string())?;
+    let heads = heads::Heads::of(&sheet);
+    let card = card::parse(card.as_bytes(), &sheet, &heads).map_err(|fault| fault.message)?;
+    Ok(graph::graph(&sheet, &heads, &card))
+}
+
+fn pictured(bytes: &[u8], card: &str) -> Result<(String, String), String> {
+    graph_of(bytes, card).map(|graph| (svg::svg(&graph), dot::dot(&graph)))
+}
+
+// The picture without what the goal doesn't need has the other boxes.
+fn shows_needed(c: &mut Checks, whole: &str, bytes: &[u8], card: &str) {
+    let few = graph_of(bytes, card).map_or(String::new(), |graph| svg::svg(&graph::needed(graph)));
+    let rungs = |picture: &str, more: &str| picture.matches(&format!("<g class=\"rung{more}")).count();
+    c.check("needed boxes stay", rungs(&few, "") == rungs(whole, "") - rungs(whole, " pale") && rungs(&few, " pale") == 0);
+    c.check("a needed picture is well formed", well_formed(&few) && apart(&areas(&few)) && few.matches(">GOAL</text>").count() == 1);
+}
+
+// A picture has a box a rung, names each rung's head, and no boxes overlap.
+fn shows(c: &mut Checks, picture: &str, card: &str) {
+    let rungs: Vec<&str> = card.lines().filter_map(|line| line.strip_prefix("rung ")).collect();
+    c.check("a picture is well formed", well_formed(picture));
+    c.check("a box a rung", picture.matches("<g class=\"rung").count() == rungs.len());
+    for (i, rung) in rungs.iter().enumerate() {
+        let head = rung.split(' ').next().unwrap_or("");
+        let rule = rung.split(' ').nth(1).unwrap_or("").replace("left", "split left").replace("right", "split right");
+        let start = format!("<title>step {} · rung {head} {rule}: entry {head} ", i + 1);
+        c.check(&format!("rung {rung} is named"), picture.contains(&start));
+    }
+    c.check("one goal", picture.matches(">GOAL</text>").count() == 1);
+    c.check("boxes are apart", apart(&areas(picture)));
+    let (out, reached) = (picture.contains(">out of reach: entry "), picture.contains(">reached: entry "));
+    c.check("the title begins with the verdict", reached == card.contains("reached") && out != reached);
+    c.check("out of reach is said", picture.contains(">out of reach</text>") == out);
+    c.check("a line a source", picture.matches("<path class=\"tip").count() == sources(card));
+    let width = picture.split(" width=\"").nth(1).and_then(|rest| rest.split('"').next()?.parse::<f64>().ok());
+    c.check(&format!("{width:?} is no wider than a window"), width.map_or(false, |width| width <= MOST_WIDTH));
+    heard_boxes(c, picture, &rungs);
+}
+
+// The boxes of one part: the tag of each, and its left and upper edge.
+fn boxes_of(part: &str) -> Vec<(String, f64, f64)> {
+    let groups = part.split("<g class=").skip(1);
+    let one = |group: &str| {
+        let told = group.split("<title>").nth(1)?.split("</title>").next()?.to_string();
+        let corner = area(group.split("<rect").nth(1)?.split('>').next()?)?;
+        Some((told, corner[0], corner[1]))
+    };
+    groups.filter_map(one).collect()
+}
+
+// In a column, heard messages stand in the order heard; and each stands in the column before its first use.
+fn heard_boxes(c: &mut Checks, picture: &str, rungs: &[&str]) {
+    let place = |told: &str| told.strip_prefix("heard ")?.split([',', ':', ' ']).next()?.parse::<usize>().ok().filter(|_| !told.contains(" times"));
+    let entry = |told: &str| told.split("entry ").nth(1).and_then(|rest| rest.split([' ', ':']).next()).map(str::to_string);
+    let segments: Vec<&str> = picture.split("<rect class=\"panel\"").collect();
+    for part in segments {
+        let boxes = boxes_of(part);
+        let heard: Vec<(usize, f64, f64)> = boxes.iter().filter(|one| !one.0.contains(", earlier:")).filter_map(|one| Some((place(&one.0)?, one.1, one.2))).collect();
+        let ordered = heard.iter().all(|a| heard.iter().all(|b| a.1 != b.1 || (a.0 < b.0) == (a.2 < b.2)));
+        c.check("heard messages are in order", ordered);
+        let mut columns: Vec<i64> = boxes.iter().map(|one| one.1 as i64).collect();
+        columns.sort_unstable();
+        columns.dedup();
+        let column = |x: f64| columns.iter().position(|left| *left == x as i64);
+        for one in boxes.iter().filter(|one| one.0.starts_with("heard ") && !one.0.contains(", earlier:") && !one.0.contains("same as")) {
+            let uses = |rung: &&str| entry(&one.0).map_or(false, |own| rung.split(' ').skip(2).any(|source| source == own));
+            let first = rungs.iter().position(uses).map(|step| format!("step {} · ", step + 1));
+            let user = first.and_then(|start| boxes.iter().find(|other| other.0.starts_with(&start)));
+            c.check(&format!("{} stands before its first use", one.0), user.map_or(rungs.is_empty(), |user| column(user.1) == column(one.1).map(|at| at + 1)));
+        }
+    }
+}
+
+// The different sources of each rung, counted over the card.
+fn sources(card: &str) -> usize {
+    let rungs = card.lines().filter(|line| line.starts_with("rung "));
+    rungs.map(|line| line.split(' ').skip(3).collect::<BTreeSet<_>>().len()).sum()
+}
+
+fn pictures(c: &mut Checks) {
+    let mut r = Random(0xd1b54a32d192ed03);
+    for i in 0..600 {
+        let bytes = if i % 100 == 0 { large(&mut r) } else { random_sheet(&mut r) };
+        let card = card_of(&bytes);
+        match pictured(&bytes, &card) {
+            Ok((svg, dot)) => {
+                shows(c, &svg, &card);
+                shows_needed(c, &svg, &bytes, &card);
+                c.check("a node a rung in dot", dot.matches("[label=\"step ").count() == card.matches("rung ").count());
+                c.check("an edge a source in dot", dot.matches(" -> ").count() == sources(&card));
+            }
+            Err(message) => c.check(&format!("{card}: {message}"), false),
+        }
+    }
+    // The longest ladder: pairs on pairs on zero.
+    let chain: Vec<Entry> = (0..256u16).map(|i| if i == 0 { Entry::Zero } else { Entry::Pair(i - 1, i.saturating_sub(9)) }).collect();
+    let bytes = sheet(&chain, &[], 255);
+    let card = card_of(&bytes);
+    c.check("256 rungs", card.contains("rungs 256"));
+    match pictured(&bytes, &card) {
+        Ok((svg, _)) => shows(c, &svg, &card),
+        Err(message) => c.check(&message, false),
+    }
+}
+
+fn pictures_by_the_tool(c: &mut Checks) {
+    let text = c.draws(&["-"], TEXT_A.as_bytes());
+    c.check("sheet A is drawn", well_formed(&text) && text.matches("<g class=\"rung").count() == 2);
+    let wanted = [
+        "reached: session after 3 heard messages, in 2 rungs",
+        "step 1 · rung 0 sum: key = atom 7",
+        "step 2 · rung 3 open: session (goal) = atom 12",
+        "<g class=\"rung goal\">",
+    ];
+    wanted.iter().for_each(|part| c.check(part, text.contains(part)));
+    let dot = c.draws(&["--dot", "-"], TEXT_A.as_bytes());
+    let named = dot.contains("step 2 · rung 3 open (goal)\\nsession\\natom 12");
+    c.check("dot", dot.starts_with("digraph") && dot.matches(" -> ").count() == 4 && named);
+    let text = c.draws(&["-"], b"a atom 1\ns seal a a\nheard s\ngoal a\n");
+    let said = text.contains(">out of reach</text>") && text.contains("Known: 1 of the sheet&#39;s 2 different terms");
+    c.check("out of reach is drawn", well_formed(&text) && said && text.contains(">out of reach: a after 1 heard message<"));
+}
+
+// The box with this name, as far as its end.
+fn box_of<'a>(picture: &'a str, name: &str) -> &'a str {
+    let mut boxes = picture.split("<g class=").filter_map(|group| group.split("</g>").next());
+    boxes.find(|one| one.contains("<text class=\"name\"") && one.contains(&format!(">{name}</text>"))).unwrap_or("")
+}
+
+// A term with two names bears both where a line comes from one and the other box says the other.
+fn names(c: &mut Checks) {
+    let text = "m atom\nk atom\nz zero\nk2 sum k z\nm2 sum m z\ns seal m2 k2\nspare sum z k\nheard s k\ngoal m\n";
+    let picture = c.draws(&["-"], text.as_bytes());
+    let (key, message) = (box_of(&picture, "k"), box_of(&picture, "m"));
+    c.check("a key's other name", key.contains(">same as k2</text>") && key.contains("the same as k2</title>"));
+    c.check("a message's other name", message.contains(">same as m2</text>"));
+    c.check("a seal has one name", !box_of(&picture, "s").contains("same as") && !picture.contains("spare"));
+    let long = format!("{}1", "frequency_hopping_".repeat(4));
+    let text = format!("{long} atom\n{long}2 atom\ns seal {long} {long}2\nheard s {long}2\ngoal {long}\n");
+    let picture = c.draws(&["-"], text.as_bytes());
+    c.check("a title with a long name", picture.contains(">reached: frequency_hopping_fr…frequency_hopping_1 after 2 heard messages, in 1 rung</text>"));
+    c.check("a long name's end is seen", picture.contains(">frequency_hopp…cy_hopping_12</text>"));
+    c.check("both names of a seal are seen", picture.contains(">frequ…ing_1 sealed under frequ…ng_12</text>"));
+    c.check("the whole name is told", picture.contains(&format!("<title id=\"title\">reached: {long} after")));
+    let cuts = [("abcdef", 6, "abcdef"), ("abcdefg", 6, "abc…fg"), ("abcdefg", 5, "ab…fg"), ("鍵鍵鍵鍵", 6, "鍵…鍵"), ("", 4, "")];
+    cuts.iter().for_each(|(text, most, wanted)| c.check(&format!("{text} cut to {most}"), short::cut(text, *most) == *wanted));
+}
+
+// What the goal doesn't need is left out when that is asked for, and counted.
+fn needed(c: &mut Checks) {
+    let atoms: String = (0..=100).map(|i| format!("a{i} atom\n")).collect();
+    let pairs: String = (2..=100).map(|i| format!("p{i} pair p{} a{i}\n", i - 1)).collect();
+    let text = format!("{atoms}p1 pair a0 a1\n{pairs}spare atom\nheard spare p100\ngoal a0\n");
+    let (all, few) = (c.draws(&["-"], text.as_bytes()), c.draws(&["--needed", "-"], text.as_bytes()));
+    let rungs = |picture: &str| picture.matches("<g class=\"rung").count();
+    c.check(&format!("{} and {} rungs", rungs(&all), rungs(&few)), rungs(&all) == 199 && rungs(&few) == 100);
+    c.check("pale rungs are counted", all.contains(">Pale: 99 rungs that the goal doesn&#39;t need.<") && !all.contains("Left out"));
+    c.check("left out rungs are counted", few.contains(">Left out: 99 rungs that the goal doesn&#39;t need.<") && !few.contains("Pale"));
+    c.check("the title has all rungs", few.contains(">reached: a0 after 2 heard messages, in 199 rungs<"));
+    c.check("steps keep their numbers", few.contains("<title>step 199 · rung 0 split left: a0 (goal)") && well_formed(&few));
+    c.check("boxes are apart", apart(&areas(&all)) && apart(&areas(&few)));
+    let heard = c.draws(&["--needed", "-"], b"a atom\nb atom\ns seal b a\nheard b s\ngoal s\n");
+    c.check("a goal that was heard", rungs(&heard) == 0 && heard.contains("<g class=\"heard goal\">"));
+    let text = "b atom\nc atom\na atom\np pair b c\ng pair a a\nheard p a\ngoal g\n";
+    let few = c.draws(&["--needed", "-"], text.as_bytes());
+    c.check("a heard message is left out too", few.contains("Left out: 2 rungs and 1 heard message that") && few.matches("<g class=\"heard").count() == 1);
+    let dot = c.draws(&["--needed", "--dot", "-"], text.as_bytes());
+    c.check("dot", dot.matches("[label=\"step ").count() == 1 && dot.contains("Left out: 2 rungs"));
+    let out = "a atom\nb atom\ns seal a b\nheard s\ngoal a\n";
+    c.check("out of reach is whole", c.draws(&["--needed", "-"], out.as_bytes()) == c.draws(&["-"], out.as_bytes()));
+}
+
+// Long ladders and long heard lists: no wider than a window, and every part has its caption.
+fn long(c: &mut Checks) {
+    let key = |i: u16| if i == 0 { 0 } else { 2 * i - 1 };
+    let opens: Vec<Entry> = (0..=100u16).flat_map(|i| if i == 0 { vec![Entry::Atom(0)] } else { vec![Entry::Atom(i), Entry::Seal(key(i), key(i - 1))] }).collect();
+    let heard: Vec<u16> = (1..=100).map(|i| 2 * i).chain([0]).collect();
+    let bytes = sheet(&opens, &heard, key(100));
+    let card = card_of(&bytes);
+    c.check("100 opens", card.contains("reached rungs 100"));
+    match pictured(&bytes, &card) {
+        Ok((svg, _)) => {
+            shows(c, &svg, &card);
+            let captions = svg.matches(">steps ").count() + svg.matches(">step 100<").count();
+            c.check("parts have captions", captions == svg.matches("class=\"panel\"").count() && svg.contains(">steps 1 to ") && captions > 10);
+        }
+        Err(message) => c.check(&message, false),
+    }
+    let locked: Vec<Entry> = (0..256u16).map(|i| if i == 0 { Entry::Atom(0) } else { Entry::Seal(i - 1, 0) }).collect();
+    let bytes = sheet(&locked, &(1..=255).collect::<Vec<u16>>(), 0);
+    let card = card_of(&bytes);
+    c.check("255 heard seals and no key", card.ends_with("cut 255 out of reach known 255\n"));
+    match pictured(&bytes, &card) {
+        Ok((svg, _)) => shows(c, &svg, &card),
+        Err(message) => c.check(&message, false),
+    }
+}
+
+// A rung with other sources or another rule doesn't follow.
+fn wrong_rungs(c: &mut Checks) {
+    use Entry::*;
+    let bytes = sheet(&[Atom(1), Atom(2), Pair(1, 0), Pair(2, 2), Seal(3, 0), Sum(vec![0, 1]), Pair(4, 5), Seal(6, 1)], &[4, 0], 7);
+    let card = card_of(&bytes);
+    c.check("a card with each rule", pictured(&bytes, &card).is_ok());
+    let edits = [
+        ("3 open 4 0", "3 open 4 4"),
+        ("3 open 4 0", "3 open 0 4"),
+        ("3 open 4 0", "3 open 4"),
+        ("2 left 3", "2 left 4"),
+        ("2 left 3", "2 left 3 3"),
+        ("1 left 2", "1 right 2"),
+        ("5 sum 0 1", "5 sum 1 0"),
+        ("5 sum 0 1", "5 sum 0 1 2"),
+        ("5 sum 0 1", "5 sum"),
+        ("6 join 4 5", "6 join 5 4"),
+        ("6 join 4 5", "6 seal 4 5"),
+        ("7 seal 6 1", "7 seal 6 0"),
+        ("7 seal 6 1", "7 seal 5 1"),
+        ("7 seal 6 1", "7 join 6 1"),
+    ];
+    for (right, wrong) in edits {
+        let refused = pictured(&bytes, &card.replace(right, wrong)).map_or_else(|message| message.contains("doesn't follow by"), |_| false);
+        c.check(&format!("rung {wrong} in place of {right}"), card.contains(right) && refused);
+    }
+    c.check("XML is escaped", boxes::escape("<a & \"b\" 'c'>") == "&lt;a &amp; &quot;b&quot; &#39;c&#39;&gt;");
+}
+
+// Every beginning of a card is cut short; cards with changed bytes are drawn or refused, never a crash.
+fn hurt_cards(c: &mut Checks) {
+    let mut r = Random(0x2545f4914f6cdd1d);
+    for _ in 0..60 {
+        let bytes = random_sheet(&mut r);
+        let card = card_of(&bytes);
+        let refused = (0..card.len()).all(|end| pictured(&bytes, &card[..end]).is_err());
+        c.check(&format!("every beginning is refused of\n{card}"), refused);
+        for _ in 0..40 {
+            let hurt = String::from_utf8_lossy(&damage(&mut r, card.clone().into_bytes())).into_owned();
+            let fine = pictured(&bytes, &hurt).map_or(true, |(svg, _)| well_formed(&svg));
+            c.check("a hurt card", fine);
+        }
+    }
+}
+
+fn main() {
+    let tool = std::env::args_os().nth(1).map(PathBuf::from).and_then(|path| path.canonicalize().ok()).expect("the tool's path");
+    let mut c = Checks { tool, passed: 0, failed: 0 };
+    pictures(&mut c);
+    pictures_by_the_tool(&mut c);
+    names(&mut c);
+    needed(&mut c);
+    long(&mut c);
+    wrong_rungs(&mut c);
+    hurt_cards(&mut c);
+    println!("pictures: {} passed, {} failed", c.passed, c.failed);
+    if c.failed > 0 {
+        std::process::exit(1);
+    }
+}
