@@ -308,7 +308,8 @@ fn statuses(c: &mut Checks, p: &Paths) {
 // Every form of a rung's line.
 fn forms(c: &mut Checks, p: &Paths) {
     use Entry::*;
-    let bytes = sheet(&[Atom(1), Atom(2), Pair(1, 0), Pair(2, 2), Seal(3, 0), Sum(vec![0, 1]), Pair(4, 5), Seal(6, 1), Zero, Pair(0, 0), Pair(9, 8), Pair(10, 7)], &[4, 0], 11);
+    let first = [Atom(1), Atom(2), Pair(1, 0), Pair(2, 2), Seal(3, 0), Sum(vec![0, 1]), Pair(4, 5), Seal(6, 1)];
+    let bytes = sheet(&[&first[..], &[Zero, Pair(0, 0), Pair(9, 8), Pair(10, 7)]].concat(), &[4, 0], 11);
     let judged = run(&p.tool, &["judge", "--cut", "2"], &bytes);
     let wanted = ["3 open 4 with 0", "2 split left 3", "1 split left 2", "5 sum of 0, 1", "6 join 4, 5", "7 seal 6 under 1", "8 sum of nothing", "9 join 0, 0"];
     wanted.iter().for_each(|line| c.check(&format!("{line} in\n{}", judged.out), judged.out.lines().any(|found| found == *line)));

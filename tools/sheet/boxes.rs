@@ -57,7 +57,7 @@ pub fn tag(node: &Node) -> String {
         Kind::Heard(places) => format!("heard {}", places.iter().map(usize::to_string).collect::<Vec<_>>().join(", ")),
         // As the card's line begins, with the rung's place before it.
         Kind::Rung(number, rule) => format!("step {number} · rung {} {}", node.entry, rule.words()),
-        Kind::Again(above) => format!("{above}, earlier"),
+        Kind::Again(place) => format!("{place}, earlier"),
         Kind::Missed => "not gained".to_string(),
     }
 }

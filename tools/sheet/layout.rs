@@ -36,18 +36,22 @@ fn is_rung(graph: &Graph, node: usize) -> bool {
     matches!(graph.nodes[node].kind, Kind::Rung(..))
 }
 
-fn rank_of(graph: &Graph) -> Vec<usize> {
+// The ranks of the rungs; all else has 0. Edges are in the order of the rungs: a source's rank is final before it is read.
+fn rung_ranks(graph: &Graph) -> Vec<usize> {
     let mut rank: Vec<usize> = (0..graph.nodes.len()).map(|node| usize::from(is_rung(graph, node))).collect();
-    // Edges are in the order of the rungs: a source's rank is final before it is read.
     for edge in &graph.edges {
         rank[edge.to] = rank[edge.to].max(rank[edge.from] + 1);
     }
-    let mut first_use = vec![None; rank.len()];
-    for edge in &graph.edges {
-        first_use[edge.from] = first_use[edge.from].into_iter().chain([rank[edge.to]]).min();
-    }
+    rank
+}
+
+// What isn't a rung stands one rank before the first that uses it.
+fn rank_of(graph: &Graph) -> Vec<usize> {
+    let rungs = rung_ranks(graph);
+    let mut rank = rungs.clone();
     for node in (0..rank.len()).filter(|node| !is_rung(graph, *node)) {
-        rank[node] = first_use[node].map_or(0, |first: usize| first - 1);
+        let uses = graph.edges.iter().filter(|edge| edge.from == node).map(|edge| rungs[edge.to]);
+        rank[node] = uses.min().map_or(0, |first| first - 1);
     }
     let least = rank.iter().min().copied().unwrap_or(0);
     rank.iter().map(|rank| rank - least).collect()

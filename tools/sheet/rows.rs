@@ -4,7 +4,7 @@
 use super::boxes::tag;
 use super::graph::{restrict, Graph, Kind};
 
-// The part of the rungs with these places in the list of rungs.
+// The part with these rungs. `first_use` has the rung that uses each node first.
 fn part(graph: &Graph, rungs: &[usize], first_use: &[Option<usize>]) -> Graph {
     let inside = |node: usize| rungs.contains(&node);
     let mut sources: Vec<usize> = graph.edges.iter().filter(|edge| inside(edge.to) && !inside(edge.from)).map(|edge| edge.from).collect();
@@ -26,16 +26,18 @@ fn step_of(kind: &Kind) -> Option<String> {
     if let Kind::Rung(number, _) = kind { Some(format!("step {number}")) } else { None }
 }
 
+// The rung that uses a node first. Edges are in the order of the rungs.
+fn first_use(graph: &Graph, node: usize) -> Option<usize> {
+    graph.edges.iter().find(|edge| edge.from == node).map(|edge| edge.to)
+}
+
 // Takes as many rungs into a part as fit, and goes on behind them. A ladder that fits is its only part.
 pub fn parts(graph: &Graph, fits: impl Fn(&Graph) -> bool) -> Vec<Graph> {
     let rungs: Vec<usize> = (0..graph.nodes.len()).filter(|node| matches!(graph.nodes[*node].kind, Kind::Rung(..))).collect();
     if rungs.is_empty() || fits(graph) {
         return vec![graph.clone()];
     }
-    let mut first_use = vec![None; graph.nodes.len()];
-    for edge in &graph.edges {
-        first_use[edge.from] = first_use[edge.from].or(Some(edge.to));
-    }
+    let first_use: Vec<Option<usize>> = (0..graph.nodes.len()).map(|node| first_use(graph, node)).collect();
     let mut parts = Vec::new();
     let mut open: Option<(usize, Graph)> = None;
     for i in 0..rungs.len() {
