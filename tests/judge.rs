@@ -317,6 +317,15 @@ fn forms(c: &mut Checks, p: &Paths) {
     c.check(&right.out, right.out.ends_with("\nb split right p\n"));
 }
 
+// What examples/README.md shows is what is printed.
+fn shown(c: &mut Checks, p: &Paths) {
+    let readme = fs::read_to_string(p.root.join("examples/README.md")).unwrap_or_default();
+    let block = readme.split("```text\n").nth(1).and_then(|rest| rest.split("```").next()).unwrap_or("");
+    let name = p.root.join("examples/nsl-xor-calls.sheet");
+    let judged = run(&p.tool, &["judge", &name.to_string_lossy()], b"");
+    c.check(&format!("examples/README.md shows\n{block}"), judged.out == block);
+}
+
 // The version is the C header's, where the header has one.
 fn version(c: &mut Checks, p: &Paths) {
     let header = fs::read_to_string(p.root.join("include/zuwendryk.h")).unwrap_or_default();
@@ -340,6 +349,7 @@ fn main() {
     random_sheets(&mut c, &p);
     statuses(&mut c, &p);
     forms(&mut c, &p);
+    shown(&mut c, &p);
     version(&mut c, &p);
     let _ = fs::remove_dir_all(&p.dir);
     println!("judge: {} passed, {} failed", c.passed, c.failed);
