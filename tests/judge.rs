@@ -256,9 +256,21 @@ fn plainly(bytes: &[u8], cut: u32) -> Said {
     Said { cuts: vec![(cut as usize, true, made)], rungs: buffer[32..].chunks(40).take(made).map(rung).collect() }
 }
 
+// Whoever hears the one entry has the other without a step, by the plain verdict. Gives the number of lines that say so.
+fn same_lines(c: &mut Checks, entries: &[Entry], text: &str) -> usize {
+    let pairs = text.lines().filter_map(|line| line.split_once(" is the same term as "));
+    let pairs: Vec<(u16, u16)> = pairs.filter_map(|(one, other)| Some((one.parse().ok()?, other.parse().ok()?))).collect();
+    for (one, other) in &pairs {
+        let answer = plain::verdict(&sheet(entries, &[*one], *other), 1, 0, &mut [0; 32]);
+        c.check(&format!("{entries:?}: {one} is the same term as {other}"), one > other && answer == 1000);
+    }
+    pairs.len()
+}
+
 // Sheets as bytes, each at each cut, and the refusals of damaged ones.
 fn random_sheets(c: &mut Checks, p: &Paths) {
     let mut r = Random(0x6a09e667f3bcc909);
+    let mut same = 0;
     for _ in 0..40 {
         let (entries, heard, goal) = random_entries(&mut r, 24);
         let bytes = sheet(&entries, &heard, goal);
@@ -268,6 +280,7 @@ fn random_sheets(c: &mut Checks, p: &Paths) {
             let judged = run(&p.tool, &["judge", "-", "--cut", &cut.to_string()], &bytes);
             let said = plainly(&bytes, cut);
             c.check(&format!("{entries:?} at cut {cut}:\n{}", judged.out), agrees(&judged, &said, &names, &heard, &format!("entry {goal}")));
+            same += same_lines(c, &entries, &judged.out);
         }
         let hurt = damage(&mut r, bytes);
         if hurt.starts_with(b"SHT1") && refusal(&hurt) > 0 {
@@ -276,6 +289,7 @@ fn random_sheets(c: &mut Checks, p: &Paths) {
             c.check(&format!("a refused sheet: {}", judged.err), judged.status == 1 && judged.out.is_empty() && said);
         }
     }
+    c.check("some names are of one term", same > 20);
 }
 
 fn statuses(c: &mut Checks, p: &Paths) {
