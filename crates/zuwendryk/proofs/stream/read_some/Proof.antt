@@ -1,0 +1,67 @@
+-- `zuwendryk::stream::read_some` meets its contract. The buffer keeps its length, and the tries that are left fall.
+use mathlib.Core.Path.{_≡_}
+use lib.ListN.{length}
+use borrow.Author.Needs.{needs}
+use Rattle.zuwendryk.proofs.stream.read_some.Statement.{statement}
+use Rattle.zuwendryk.proofs.stream.read_some.Tie as tie
+
+abbrev Inv-loop : tie.InvT-loop
+Inv-loop fd buf₀ tries₀ got₀ buf tries got = length buf ≡ length buf₀
+
+abbrev μ-loop : tie.MeasureT-loop
+μ-loop fd buf₀ tries₀ got₀ buf tries got = tries
+
+read-requires : tie.Need-read-requires Inv-loop μ-loop
+read-requires c κs = search needs
+
+loop-holds : tie.Need-loop-holds Inv-loop μ-loop
+loop-holds c = search needs
+
+errno-requires : tie.Need-errno-requires Inv-loop μ-loop
+errno-requires c κs = search needs
+
+passing-requires : tie.Need-passing-requires Inv-loop μ-loop
+passing-requires c κs = search needs
+
+pause-requires : tie.Need-pause-requires Inv-loop μ-loop
+pause-requires c κs = search needs
+
+sub-tries : tie.Need-sub-tries Inv-loop μ-loop
+sub-tries c = search needs
+
+read-requires-2 : tie.Need-read-requires-2 Inv-loop μ-loop
+read-requires-2 c κs = search needs
+
+loop-less : tie.Need-loop-less Inv-loop μ-loop
+loop-less c = search needs
+
+loop-again : tie.Need-loop-again Inv-loop μ-loop
+loop-again c = search needs
+
+count-requires : tie.Need-count-requires Inv-loop μ-loop
+count-requires c κs = search needs
+
+same-length : tie.Need-same-length Inv-loop μ-loop
+same-length c = search needs
+
+returns : tie.Need-returns Inv-loop μ-loop
+returns c = search needs
+
+pub read-some-spec : {M : Type 1} → statement M
+read-some-spec =
+    tie.close
+    (tie.spec
+    Inv-loop
+    μ-loop
+    read-requires
+    loop-holds
+    errno-requires
+    passing-requires
+    pause-requires
+    sub-tries
+    read-requires-2
+    loop-less
+    loop-again
+    count-requires
+    same-length
+    returns)

@@ -1,0 +1,3 @@
+-- Reading order: which errors pass, and which inputs look like text.
+pub mod Stream
+pub mod Text
