@@ -6,8 +6,9 @@ ghost use Rattle.io.specs.Counts.{Counts};
 ghost use Rattle.zuwendryk.specs.Stream.{passing};
 use libc::EAGAIN;
 use libc::EINTR;
+use libc::types::timespec;
 
-// How often a call is made again, with a hundredth of a second between: a minute in all.
+// How often a call is made again, a hundredth of a second after the last: a minute in all.
 const TRIES: u32 = 6000;
 
 // What calls have moved: how many bytes, and whether a call failed.
@@ -29,9 +30,17 @@ fn passing(error: i32) -> bool
     false
 }
 
-// Waits a hundredth of a second.
+// Waits a hundredth of a second, or until a signal comes.
 fn pause() {
-    libc::sched_yield();
+    let asked = timespec {
+        tv_sec: 0,
+        tv_nsec: 10000000,
+    };
+    let mut left = timespec {
+        tv_sec: 0,
+        tv_nsec: 0,
+    };
+    libc::nanosleep(&asked, &mut left);
 }
 
 // Reads once: 0 bytes is the input's end. Where it failed, errno says why.
