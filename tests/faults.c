@@ -3,7 +3,8 @@
    READ_FAULTS is for reads of standard input, WRITE_FAULTS for writes to standard output: words, one for each call.
        eN      the call fails with errno N          NxeN    the same N times          e*N    from here on every call fails with errno N
        N       the call moves at most N bytes
-   Past the last word calls go through. nanosleep doesn't wait; PAUSES names a file that gets the number of its calls at the end. */
+   Past the last word calls go through. A program that is still at it after 100,000 calls is ended, with status 3.
+   nanosleep doesn't wait; PAUSES names a file that gets the number of its calls at the end. */
 #define _GNU_SOURCE
 #include <errno.h>
 #include <stdio.h>
@@ -22,12 +23,13 @@ struct faults {
 };
 
 static struct faults reads = {"READ_FAULTS", 0, 0, 0, 0, 0}, writes = {"WRITE_FAULTS", 0, 0, 0, 0, 0};
-static long pauses;
+static long calls, pauses;
 
 /* The error with which the next call fails, or 0; then *most is how many bytes it moves at most. */
 static int next(struct faults *f, size_t *most) {
     char *end;
     long n;
+    if (++calls > 100000) _exit(3);
     if (!f->started) {
         f->started = 1;
         f->at = getenv(f->variable);

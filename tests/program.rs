@@ -1,5 +1,5 @@
 // The program, run on sheets and compared with their cards: those of the flight card and each kind of line, refused input, and random small
-// sheets whose card is made from the reading of document 01. The program's path is the first argument.
+// sheets whose card is made from the reading of document 01. Standard error has the hint for text, or nothing. The program's path is the first argument.
 
 #[allow(dead_code)] // each test uses a part
 mod sheets;
@@ -10,15 +10,25 @@ use sheets::{damage, random_entries, refusal, sheet, Entry, Random};
 use std::io::Write;
 use std::process::{Command, Stdio};
 
-fn run(program: &str, input: &[u8]) -> String {
-    let mut child = Command::new(program).stdin(Stdio::piped()).stdout(Stdio::piped()).spawn().expect("the program starts");
+// What the program prints on standard output, and on standard error.
+fn run(program: &str, input: &[u8]) -> (String, String) {
+    let mut child = Command::new(program).stdin(Stdio::piped()).stdout(Stdio::piped()).stderr(Stdio::piped()).spawn().expect("the program starts");
     let mut stdin = child.stdin.take().unwrap();
     // The program reads no further than it needs, so a broken pipe is no fault.
     let _ = stdin.write_all(input);
     drop(stdin);
     let out = child.wait_with_output().unwrap();
     assert!(out.status.success());
-    String::from_utf8(out.stdout).expect("the card is text")
+    (String::from_utf8(out.stdout).expect("the card is text"), String::from_utf8(out.stderr).expect("a message is text"))
+}
+
+// The hint, where the input isn't empty, begins with other letters than a sheet's, and its first 64 bytes can stand in text.
+fn hint(s: &[u8]) -> &'static str {
+    let text = s.iter().take(64).all(|b| matches!(b, 9 | 10 | 13 | 32..=126 | 128..=247));
+    if s.is_empty() || s.starts_with(b"SHT1") || !text {
+        return "";
+    }
+    "zuwendryk: the input looks like text; a text sheet is assembled first: sheet assemble FILE -o SHEET\n"
 }
 
 // The card by the reading.
@@ -61,12 +71,12 @@ fn main() {
     let program = std::env::args().nth(1).expect("the program's path");
     let (mut passed, mut failed) = (0, 0);
     let mut check = |what: &str, input: &[u8], want: &str| {
-        let got = run(&program, input);
-        if got == want {
+        let (got, said) = run(&program, input);
+        if got == want && said == hint(input) {
             passed += 1;
         } else {
             failed += 1;
-            println!("{what}: printed\n{got}wanted\n{want}");
+            println!("{what}: printed\n{got}wanted\n{want}and said {said:?}");
         }
     };
     let a = sheet(&[Atom(7), Atom(9), Sum(vec![0, 1]), Atom(12), Seal(3, 0)], &[2, 4, 1], 3);

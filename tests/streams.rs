@@ -10,7 +10,7 @@ use std::io::{Read, Write};
 use std::os::unix::io::FromRawFd;
 use std::os::unix::process::ExitStatusExt;
 use std::process::{Child, Command, ExitStatus, Stdio};
-use std::thread::sleep;
+use std::thread::{sleep, spawn};
 use std::time::Duration;
 
 extern "C" {
@@ -70,12 +70,16 @@ fn a_while() {
 
 // Writes the input, in pieces of the given size, and waits for the end. The program reads no further than it needs, so a broken pipe is no fault.
 fn finish(mut child: Child, input: &[u8], piece: usize) -> Seen {
-    if let Some(mut stdin) = child.stdin.take() {
-        for part in input.chunks(piece) {
-            let _ = stdin.write_all(part);
+    let (stdin, input) = (child.stdin.take(), input.to_vec());
+    let writer = spawn(move || {
+        if let Some(mut stdin) = stdin {
+            for part in input.chunks(piece) {
+                let _ = stdin.write_all(part);
+            }
         }
-    }
+    });
     let got = child.wait_with_output().unwrap();
+    writer.join().unwrap();
     Seen { out: got.stdout, err: String::from_utf8_lossy(&got.stderr).into_owned(), status: got.status }
 }
 
@@ -167,9 +171,9 @@ fn late_input(t: &mut Test) {
     let child = command.spawn().unwrap();
     drop(command); // with its copy of the reading end
     a_while();
-    writing.write_all(&t.sheet[..20]).unwrap();
+    let _ = writing.write_all(&t.sheet[..20]);
     a_while();
-    writing.write_all(&t.sheet[20..]).unwrap();
+    let _ = writing.write_all(&t.sheet[20..]);
     drop(writing);
     let seen = finish(child, &[], 1);
     t.check("input that comes late", seen, CARD, "");
@@ -212,7 +216,7 @@ fn late_reader(t: &mut Test) {
     command.stdout(writing);
     let mut child = command.spawn().unwrap();
     drop(command); // with its copy of the writing end
-    child.stdin.take().unwrap().write_all(&t.sheet).unwrap();
+    let _ = child.stdin.take().unwrap().write_all(&t.sheet);
     a_while();
     let out = bytes_of(reading);
     let mut seen = finish(child, &[], 1);
