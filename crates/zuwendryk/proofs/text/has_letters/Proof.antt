@@ -44,7 +44,9 @@ same-requires : tie.Need-same-requires
 same-requires c κs = search needs
 
 returns-2 : tie.Need-returns-2
-returns-2 c = the-test (c .same .result) _ _ (c .same .ensures .0) (c .same .ensures .1)
+returns-2 c =
+    let s = now (c .before .before .before .before .before .args .s) in
+    the-test (c .same .result) (take 4 s) letters (c .same .ensures .0) (c .same .ensures .1)
 
 pub has-letters-spec : {M : Type 1} → statement M
 has-letters-spec =
