@@ -8,18 +8,19 @@ mod bytes;
 #[path = "../tools/sheet/model.rs"]
 #[allow(dead_code)]
 mod model;
+mod tally;
 
 use model::Entry;
 use std::fs;
 use std::os::unix::fs::{symlink, PermissionsExt};
 use std::path::{Path, PathBuf};
 use std::process::{Command, Stdio};
+use tally::Tally;
 
 struct Checks {
     tool: PathBuf,
     dir: PathBuf,
-    passed: usize,
-    failed: usize,
+    tally: Tally,
 }
 
 struct Run {
@@ -30,12 +31,7 @@ struct Run {
 
 impl Checks {
     fn check(&mut self, what: &str, holds: bool) {
-        if holds {
-            self.passed += 1;
-        } else {
-            self.failed += 1;
-            println!("failed: {what}");
-        }
+        self.tally.check(what, holds);
     }
 
     // Runs a line of the shell in the test's folder; $sheet is the tool.
@@ -210,7 +206,7 @@ fn main() {
     let tool = std::env::args_os().nth(1).map(PathBuf::from).and_then(|path| path.canonicalize().ok()).expect("the tool's path");
     let dir = std::env::temp_dir().join(format!("sheet-files-test-{}", std::process::id()));
     let tests: [fn(&mut Checks); 6] = [failed_writes, good_writes, links, inputs, notes, own_numbers];
-    let mut c = Checks { tool, dir: dir.clone(), passed: 0, failed: 0 };
+    let mut c = Checks { tool, dir: dir.clone(), tally: Tally::default() };
     for test in tests {
         let _ = fs::remove_dir_all(Path::new(&dir));
         fs::create_dir_all(&dir).expect("a folder for the test");
@@ -218,8 +214,5 @@ fn main() {
         test(&mut c);
     }
     let _ = fs::remove_dir_all(&dir);
-    println!("files: {} passed, {} failed", c.passed, c.failed);
-    if c.failed > 0 {
-        std::process::exit(1);
-    }
+    c.tally.end("files");
 }

@@ -6,6 +6,7 @@
 mod plain;
 #[allow(dead_code)]
 mod sheets;
+mod tally;
 
 use sheets::{damage, random_entries, refusal, sheet, Entry, Random};
 use std::collections::HashMap;
@@ -13,23 +14,7 @@ use std::fs;
 use std::io::Write;
 use std::path::{Path, PathBuf};
 use std::process::{Command, Stdio};
-
-#[derive(Default)]
-struct Checks {
-    passed: usize,
-    failed: usize,
-}
-
-impl Checks {
-    fn check(&mut self, what: &str, holds: bool) {
-        if holds {
-            self.passed += 1;
-        } else {
-            self.failed += 1;
-            println!("failed: {what}");
-        }
-    }
-}
+use tally::Tally;
 
 struct Run {
     status: i32,
@@ -203,7 +188,7 @@ fn heard_and_goal(text: &str, names: &HashMap<String, usize>) -> (Vec<usize>, St
     (heard, goal)
 }
 
-fn example(c: &mut Checks, p: &Paths, path: &Path) {
+fn example(c: &mut Tally, p: &Paths, path: &Path) {
     let name = path.to_string_lossy();
     let text = fs::read_to_string(path).unwrap_or_default();
     let assembled = p.dir.join("example");
@@ -227,7 +212,7 @@ fn example(c: &mut Checks, p: &Paths, path: &Path) {
     c.check(&format!("{name} is drawn alike with and without its card"), drawn[0] == drawn[1] && drawn[0].starts_with("<svg"));
 }
 
-fn examples(c: &mut Checks, p: &Paths) {
+fn examples(c: &mut Tally, p: &Paths) {
     let files = fs::read_dir(p.root.join("examples")).expect("the examples are there").filter_map(|file| Some(file.ok()?.path()));
     let mut sheets: Vec<PathBuf> = files.filter(|path| path.extension().map_or(false, |end| end == "sheet")).collect();
     sheets.sort();
@@ -257,7 +242,7 @@ fn plainly(bytes: &[u8], cut: u32) -> Said {
 }
 
 // Whoever hears the one entry has the other without a step, by the plain verdict. Gives the number of lines that say so.
-fn same_lines(c: &mut Checks, entries: &[Entry], text: &str) -> usize {
+fn same_lines(c: &mut Tally, entries: &[Entry], text: &str) -> usize {
     let pairs = text.lines().filter_map(|line| line.split_once(" is the same term as "));
     let pairs: Vec<(u16, u16)> = pairs.filter_map(|(one, other)| Some((one.parse().ok()?, other.parse().ok()?))).collect();
     for (one, other) in &pairs {
@@ -268,7 +253,7 @@ fn same_lines(c: &mut Checks, entries: &[Entry], text: &str) -> usize {
 }
 
 // Sheets as bytes, each at each cut, and the refusals of damaged ones.
-fn random_sheets(c: &mut Checks, p: &Paths) {
+fn random_sheets(c: &mut Tally, p: &Paths) {
     let mut r = Random(0x6a09e667f3bcc909);
     let mut same = 0;
     for _ in 0..40 {
@@ -292,7 +277,7 @@ fn random_sheets(c: &mut Checks, p: &Paths) {
     c.check("some names are of one term", same > 20);
 }
 
-fn statuses(c: &mut Checks, p: &Paths) {
+fn statuses(c: &mut Tally, p: &Paths) {
     let text = "k atom 7\nm atom 9\nbox seal m k\nagain pair m k\nother pair m k\nheard box k other\ngoal m\n";
     let cases: [(&[&str], &str, i32, &str, &str); 9] = [
         (&["judge"], text, 3, "reached: a listener who heard the first 2 of 3 messages gains m in 1 step\n", ""),
@@ -320,7 +305,7 @@ fn statuses(c: &mut Checks, p: &Paths) {
 }
 
 // Every form of a rung's line.
-fn forms(c: &mut Checks, p: &Paths) {
+fn forms(c: &mut Tally, p: &Paths) {
     use Entry::*;
     let first = [Atom(1), Atom(2), Pair(1, 0), Pair(2, 2), Seal(3, 0), Sum(vec![0, 1]), Pair(4, 5), Seal(6, 1)];
     let bytes = sheet(&[&first[..], &[Zero, Pair(0, 0), Pair(9, 8), Pair(10, 7)]].concat(), &[4, 0], 11);
@@ -332,7 +317,7 @@ fn forms(c: &mut Checks, p: &Paths) {
 }
 
 // What examples/README.md shows is what is printed.
-fn shown(c: &mut Checks, p: &Paths) {
+fn shown(c: &mut Tally, p: &Paths) {
     let readme = fs::read_to_string(p.root.join("examples/README.md")).unwrap_or_default();
     let block = readme.split("```text\n").nth(1).and_then(|rest| rest.split("```").next()).unwrap_or("");
     let name = p.root.join("examples/nsl-xor-calls.sheet");
@@ -341,7 +326,7 @@ fn shown(c: &mut Checks, p: &Paths) {
 }
 
 // The version is the C header's, where the header has one.
-fn version(c: &mut Checks, p: &Paths) {
+fn version(c: &mut Tally, p: &Paths) {
     let header = fs::read_to_string(p.root.join("include/zuwendryk.h")).unwrap_or_default();
     let part = |name: &str| header.lines().find_map(|line| line.strip_prefix(&format!("#define ZUWENDRYK_VERSION_{name} "))?.split(' ').next());
     let said = run(&p.tool, &["--version"], b"");
@@ -358,7 +343,7 @@ fn main() {
     let dir = std::env::temp_dir().join(format!("sheet-judge-test-{}", std::process::id()));
     fs::create_dir_all(&dir).expect("a folder for the test");
     let p = Paths { tool: whole(0), program: whole(1), root: whole(2), dir };
-    let mut c = Checks::default();
+    let mut c = Tally::default();
     examples(&mut c, &p);
     random_sheets(&mut c, &p);
     statuses(&mut c, &p);
@@ -366,8 +351,5 @@ fn main() {
     shown(&mut c, &p);
     version(&mut c, &p);
     let _ = fs::remove_dir_all(&p.dir);
-    println!("judge: {} passed, {} failed", c.passed, c.failed);
-    if c.failed > 0 {
-        std::process::exit(1);
-    }
+    c.end("judge");
 }

@@ -5,6 +5,7 @@ mod cards;
 mod plain;
 #[allow(dead_code)] // each test uses a part
 mod sheets;
+mod tally;
 
 #[path = "../tools/sheet/boxes.rs"]
 mod boxes;
@@ -38,23 +39,18 @@ use std::collections::BTreeSet;
 use std::io::Write;
 use std::path::PathBuf;
 use std::process::{Command, Stdio};
+use tally::Tally;
 
 const MOST_WIDTH: f64 = 1280.0;
 
 struct Checks {
     tool: PathBuf,
-    passed: usize,
-    failed: usize,
+    tally: Tally,
 }
 
 impl Checks {
     fn check(&mut self, what: &str, holds: bool) {
-        if holds {
-            self.passed += 1;
-        } else {
-            self.failed += 1;
-            println!("failed: {what}");
-        }
+        self.tally.check(what, holds);
     }
 
     // What the tool prints for a sheet on its standard input; nothing if it fails.
@@ -362,7 +358,7 @@ fn hurt_cards(c: &mut Checks) {
 
 fn main() {
     let tool = std::env::args_os().nth(1).map(PathBuf::from).and_then(|path| path.canonicalize().ok()).expect("the tool's path");
-    let mut c = Checks { tool, passed: 0, failed: 0 };
+    let mut c = Checks { tool, tally: Tally::default() };
     pictures(&mut c);
     pictures_by_the_tool(&mut c);
     names(&mut c);
@@ -370,8 +366,5 @@ fn main() {
     long(&mut c);
     wrong_rungs(&mut c);
     hurt_cards(&mut c);
-    println!("pictures: {} passed, {} failed", c.passed, c.failed);
-    if c.failed > 0 {
-        std::process::exit(1);
-    }
+    c.tally.end("pictures");
 }

@@ -5,6 +5,7 @@ mod cards;
 mod plain;
 #[allow(dead_code)] // each test uses a part
 mod sheets;
+mod tally;
 
 #[allow(dead_code)]
 #[path = "../tools/sheet/bytes.rs"]
@@ -26,12 +27,12 @@ use std::fs;
 use std::io::Write;
 use std::path::{Path, PathBuf};
 use std::process::{Command, Stdio};
+use tally::Tally;
 
 struct Checks {
     tool: String,
     dir: PathBuf,
-    passed: usize,
-    failed: usize,
+    tally: Tally,
 }
 
 // What a run of the tool gave.
@@ -43,12 +44,7 @@ struct Run {
 
 impl Checks {
     fn check(&mut self, what: &str, holds: bool) {
-        if holds {
-            self.passed += 1;
-        } else {
-            self.failed += 1;
-            println!("failed: {what}");
-        }
+        self.tally.check(what, holds);
     }
 
     fn run(&self, words: &[&str], input: &[u8]) -> Run {
@@ -289,7 +285,7 @@ fn main() {
     let tool = Path::new(&tool).canonicalize().expect("the tool is there").to_string_lossy().into_owned();
     let dir = std::env::temp_dir().join(format!("sheet-tool-test-{}", std::process::id()));
     fs::create_dir_all(&dir).expect("a directory for the test");
-    let mut c = Checks { tool, dir: dir.clone(), passed: 0, failed: 0 };
+    let mut c = Checks { tool, dir: dir.clone(), tally: Tally::default() };
     round_trips(&mut c);
     good_texts(&mut c);
     text_faults(&mut c);
@@ -297,8 +293,5 @@ fn main() {
     usage(&mut c);
     bad_cards(&mut c);
     let _ = fs::remove_dir_all(&dir);
-    println!("tools: {} passed, {} failed", c.passed, c.failed);
-    if c.failed > 0 {
-        std::process::exit(1);
-    }
+    c.tally.end("tools");
 }

@@ -1,6 +1,6 @@
 -- What a caller may conclude from the number that comes back, for every good sheet. Each statement is drawn from a field of `Meets` alone.
 -- Shown: `passes-derivable`; `reached-derivable`; `out-underivable`; `out-exact`, `reached-exact`, with a budget of at least the number of entries;
--- `stopped-used-up`, `rungs-few`, `rungs-fields`. Assumes nothing.
+-- `stopped-used-up`, `steps-few`, `steps-fields`. Assumes nothing.
 use mathlib.Core.Path.{_≡_, refl, sym, ap, _∙_}
 use mathlib.Core.Logic.{_↔_}
 use mathlib.Core.List.{List, List·Memᴰ}
@@ -70,12 +70,12 @@ module _ {s : List ℕ} {cut budget : ℕ} {old out : List ℕ} {answer : ℕ} (
       (named exhausted (is-stopped l) ∙ ap (λ (k : ℕ). 3000 + k) (sym (steps-count out (m .count)) ∙ q), f)
 
   -- "the rung count returned is at most the number of entries"
-  pub rungs-few : answer < 2000 → answer ≤ 1000 + countOf s
-  rungs-few h = omega (arith, named derivable (is-reached h), m .few)
+  pub steps-few : answer < 2000 → answer ≤ 1000 + countOf s
+  steps-few h = omega (arith, named derivable (is-reached h), m .few)
 
   -- each rung's fields are entries or hold their fixed values
-  pub rungs-fields : answer < 2000 → (r : Step) → List·Memᴰ r (stepsIn out (m .count)) → Fields (countOf s) r
-  rungs-fields h = let (end, r, g) = m .passes (is-reached h) in replays-fields (termAt (entryAt s)) (countOf s) r
+  pub steps-fields : answer < 2000 → (r : Step) → List·Memᴰ r (stepsIn out (m .count)) → Fields (countOf s) r
+  steps-fields h = let (end, r, g) = m .passes (is-reached h) in replays-fields (termAt (entryAt s)) (countOf s) r
 
   -- with a budget of at least the number of entries the number decides
   module _ (enough : countOf s ≤ budget) where

@@ -68,11 +68,11 @@ module _ {s : List ℕ} {cut budget : ℕ} {es : List ℕ} {ss : List Step} {v :
 
 -- sheet A at cut 3, whatever the buffers hold
 module _ (old out : List ℕ) where
-  pub rung-too-many : ¬ Meets sheetA 3 256 old out 1003
-  rung-too-many m = omega (arith, only-answer (runs .0) m)
+  pub step-too-many : ¬ Meets sheetA 3 256 old out 1003
+  step-too-many m = omega (arith, only-answer (runs .0) m)
 
-  pub rung-missing : ¬ Meets sheetA 3 256 old out 1001
-  rung-missing m = omega (arith, only-answer (runs .0) m)
+  pub step-missing : ¬ Meets sheetA 3 256 old out 1001
+  step-missing m = omega (arith, only-answer (runs .0) m)
 
   pub out-for-derivable : (k : ℕ) → ¬ Meets sheetA 3 256 old out (2000 + k)
   out-for-derivable k m = omega (arith, only-answer (runs .0) m)
@@ -80,8 +80,8 @@ module _ (old out : List ℕ) where
   pub beyond-the-budget : ¬ Meets sheetA 3 0 old out 1002
   beyond-the-budget m = omega (arith, only-answer (runs .1) m)
 
-  pub rung-copied : {answer : ℕ} (m : Meets sheetA 3 256 old out answer) → ¬ (stepsIn out (m .count) ≡ sumStep ∷ sumStep ∷ [])
-  rung-copied m p = omega (arith, ap (λ (l : List Step). getD l 1 sumStep .head) (sym (only-steps (runs .0) m) ∙ p))
+  pub step-copied : {answer : ℕ} (m : Meets sheetA 3 256 old out answer) → ¬ (stepsIn out (m .count) ≡ sumStep ∷ sumStep ∷ [])
+  step-copied m p = omega (arith, ap (λ (l : List Step). getD l 1 sumStep .head) (sym (only-steps (runs .0) m) ∙ p))
 
   -- at cut 2 the heads 2 and 4 are gained and no other
   pub head-too-many : {answer : ℕ} → Meets sheetA 2 256 old out answer → ¬ (member (setOf (take 32 out)) 0 ≡ true)

@@ -1,6 +1,7 @@
 // Standard input and output, read and written whole. A call that a signal interrupts, and one at a stream that isn't ready, is made again.
 ghost use mathlib.Core.Path.{_≡_};
 ghost use Prim.Native.Nat.{_≤_};
+ghost use mathlib.Core.Bool.{true};
 ghost use lib.ListN.{length};
 ghost use Rattle.io.specs.Counts.{Counts};
 ghost use Rattle.zuwendryk.specs.Stream.{passing};
@@ -106,8 +107,10 @@ pub fn read_all(fd: i32, buf: &mut [u8]) -> Part
     }
 }
 
-// Writes until all of buf is taken or a write fails or takes nothing.
-pub fn write_all(fd: i32, buf: &[u8]) -> bool {
+// Writes until all of buf is taken or a write fails or takes nothing; answers whether all is taken. Of which bytes were no contract can speak.
+pub fn write_all(fd: i32, buf: &[u8]) -> bool
+    ensures { λ r. ⌜ (length (now (buf .entry)) ≡ 0 → r ≡ true) ⌝ }
+{
     let mut done: usize = 0;
     while done < buf.len() {
         let part = write_some(fd, &buf[done..]);

@@ -1,5 +1,7 @@
 -- `zuwendryk::stream::write_all` is safe and ends: each turn leaves fewer bytes.
+use mathlib.Core.Path.{refl}
 use Prim.Native.Nat.{_≤_, _-_}
+use native.Mathlib.Omega.{arith}
 use lib.ListN.{length}
 use borrow.Author.Needs.{needs}
 use Rattle.zuwendryk.proofs.stream.write_all.Statement.{statement}
@@ -27,7 +29,7 @@ write-some-requires : tie.Need-write-some-requires Inv-loop μ-loop
 write-some-requires c κs = search needs
 
 returns : tie.Need-returns Inv-loop μ-loop
-returns c = search needs
+returns c = λ z. absurd (omega arith)
 
 add-done : tie.Need-add-done Inv-loop μ-loop
 add-done c = search needs
@@ -39,7 +41,7 @@ loop-again : tie.Need-loop-again Inv-loop μ-loop
 loop-again c = search needs
 
 returns-2 : tie.Need-returns-2 Inv-loop μ-loop
-returns-2 c = search needs
+returns-2 c = λ z. refl
 
 pub write-all-spec : {M : Type 1} → statement M
 write-all-spec =
