@@ -105,5 +105,6 @@ learn-len known ws len e v more vs next p = elim (learn-rows (stateOf known ws l
     one-more : (r : Row) → length (rowsOf ws len ++ (r ∷ [])) ≡ len + 1
     one-more r = length-append (rowsOf ws len) (r ∷ []) ∙ ap (λ (n : ℕ). n + 1) (length-rowsOf ws len)
 
+-- so it doesn't fall, and grows by at most one
 pub learn-step : (known ws : List ℕ) (len e v : ℕ) (more vs : List ℕ) (next : ℕ) → stateOf more vs next ≡ learnAs (stateOf known ws len) e v → (len ≤ next) × (next ≤ len + 1)
 learn-step known ws len e v more vs next p = elim (learn-len known ws len e v more vs next p) [ inl q ↦ (omega arith, omega arith) | inr q ↦ (omega arith, omega arith) ]

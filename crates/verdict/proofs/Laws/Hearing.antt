@@ -36,6 +36,7 @@ pub record Held (s : List ℕ) (k : ℕ) (x : program.Knowledge) (remainders : L
   pub lines : length remainders ≡ 256
   pub cache : Remainders (setAt (entryAt s)) (countOf s) (x .rows) (x .len) remainders
 
+-- it holds of an equal state and an equal table
 pub held-same : {s : List ℕ} {k : ℕ} {x y : program.Knowledge} {ts us : List (List ℕ)} → y ≡ x → us ≡ ts → Held s k x ts → Held s k y us
 held-same {s} {k} {x} {y} {ts} {us} p q h = subst (λ (z : program.Knowledge). Held s k z us) (sym p) (subst (Held s k x) (sym q) h)
 
