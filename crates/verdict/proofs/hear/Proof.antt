@@ -29,9 +29,13 @@ abbrev μ-loop : tie.MeasureT-loop
 μ-loop s cut sets reps remainders₀ n state₀ k₀ remainders state k =
     cut - k
 
+-- one of the messages before the cut
+below : (c : tie.In-loop Inv-loop μ-loop) → c .before .loop .k < c .before .before .before .before .before .args .cut
+below c = omega (arith, c .loop-test .taken)
+
 -- a head fits a byte
 small : (c : tie.After-trace-at Inv-loop μ-loop) → getD (now (c .before .before .before .before .before .before .args .reps)) (c .trace-at .result) 0 < 256
-small c = hear-small (c .before .before .loop .inv .2) (c .before .before .loop .k) (c .before .loop-test .taken) (c .trace-at .ensures)
+small c = hear-small (c .before .before .loop .inv .2) (c .before .before .loop .k) (below (c .before)) (c .trace-at .ensures)
 
 few : (c : tie.At-loop Inv-loop μ-loop) → c .before .before .count .result ≤ 256
 few c = le-trans (le-of-eq (c .loop .inv .0)) (good (now (c .before .before .before .before .args .s)) (c .loop .inv .2 .good) .few)
@@ -49,8 +53,8 @@ more c =
     let a = t .before .before in
     let x = a .loop .state in
     ⊎-elim
-    (λ w. held-same (w .8) (w .7) (held-more (a .loop .inv .2) (a .loop .k) (t .before .loop-test .taken) (t .trace-at .ensures) x (a .loop .remainders) (a .loop .inv .3) (w .2 .result) (w .6 .last .0) _ (a .loop .inv .0) (w .2 .ensures .0) (w .2 .ensures .1 .0) (w .2 .ensures .1 .1) (w .6 .ensures .0) (w .6 .ensures .1 .0)))
-    (λ w. held-same (w .2) (w .1) (held-again (a .loop .inv .2) (a .loop .k) (t .before .loop-test .taken) (t .trace-at .ensures) x (a .loop .remainders) (a .loop .inv .3) (sym (c .before .member .ensures) ∙ not-false _ (w .0 .left))))
+    (λ w. held-same (w .8) (w .7) (held-more (a .loop .inv .2) (a .loop .k) (below (t .before)) (t .trace-at .ensures) x (a .loop .remainders) (a .loop .inv .3) (w .2 .result) (w .6 .last .0) _ (a .loop .inv .0) (w .2 .ensures .0) (w .2 .ensures .1 .0) (w .2 .ensures .1 .1) (w .6 .ensures .0) (w .6 .ensures .1 .0)))
+    (λ w. held-same (w .2) (w .1) (held-again (a .loop .inv .2) (a .loop .k) (below (t .before)) (t .trace-at .ensures) x (a .loop .remainders) (a .loop .inv .3) (sym (c .before .member .ensures) ∙ not-false _ (w .0 .left))))
     (c .if1 .came)
 
 done : (c : tie.After-loop Inv-loop μ-loop) → c .before .loop .k ≡ c .before .before .before .before .before .args .cut
@@ -76,7 +80,7 @@ cast-e : tie.Need-cast-e Inv-loop μ-loop
 cast-e c = search needs
 
 element-copy-out-e : tie.Need-element-copy-out-e Inv-loop μ-loop
-element-copy-out-e c = hear-trace (c .before .before .loop .inv .2) (c .before .before .loop .k) (c .before .loop-test .taken) (c .trace-at .ensures)
+element-copy-out-e c = hear-trace (c .before .before .loop .inv .2) (c .before .before .loop .k) (below (c .before)) (c .trace-at .ensures)
 
 member-requires : tie.Need-member-requires Inv-loop μ-loop
 member-requires c κs = search needs
