@@ -171,7 +171,7 @@ extern "C" {
  * zuwendryk_validate. They include what the dynamic linker takes when it looks up memcpy or memset at the first use. A thread made for a verdict
  * may have PTHREAD_STACK_MIN + ZUWENDRYK_STACK bytes. The figures are measured by a test on the archive, not proved. */
 #define ZUWENDRYK_STACK 81920
-#define ZUWENDRYK_STACK_REFUSED 77824
+#define ZUWENDRYK_STACK_REFUSED 1024
 
 /* WHAT A CALLER OWES. No pointer is null, also where its length is 0. Each area has the length given. The buffer overlaps no byte of the sheet. While
  * a call runs nothing else writes the sheet, or touches the buffer. The stack has the room said above. Nothing can check these at run time.

@@ -1,7 +1,6 @@
 -- The demands alone determine the call.
 -- Shown: `meets-unique`, two answers and buffers that meet the demands for one sheet, cut and budget have equal numbers, rungs and gained sets;
--- `meets-equations`, for a buffer of bytes of the old length the demands are the two equations with the run; `demands-equations`, the same for every call, refused
--- or not. So nobody has to believe the run or the elimination. Assumes nothing.
+-- `demands-equations`, for a buffer of bytes of the old length the demands hold exactly when answer and buffer are those of the equations with the run, refused or not. So nobody has to believe the run or the elimination. Assumes nothing.
 use mathlib.Core.Path.{_≡_, refl, sym, ap, ap₂, _∙_, subst}
 use mathlib.Core.Bool.{Bool, true, false, true≢false}
 use mathlib.Core.Logic.{_↔_, by-cases}
@@ -30,7 +29,7 @@ use Rattle.verdict.specs.Demands.{verdictCode, readStep, stepsIn, gained
 use Rattle.verdict.specs.Answer.{outcomeOf, answerOf, bufferOf}
 use Rattle.verdict.proofs.Laws.Readback.{buffer-back}
 use Rattle.verdict.proofs.Laws.Demands.{start-is-heads, run-is-course}
-use Rattle.verdict.proofs.Laws.Answered.{ok-sheet, ok-cut, ok-space, refused-answer, refused-buffer, accepted-answer, accepted-buffer, accepted-known, accepted-meets}
+use Rattle.verdict.proofs.Laws.Answered.{ok-sheet, ok-cut, ok-space, refused-answer, refused-buffer, equations-demand, accepted-answer, accepted-buffer, accepted-known, accepted-meets}
 
 -- as many steps as are read
 pub steps-count : (out : List ℕ) (k : ℕ) → length (stepsIn out k) ≡ k
@@ -89,10 +88,6 @@ module _ (s : List ℕ) (cut budget : ℕ) (old : List ℕ) (ok : refusalOf s cu
   abbrev o : Outcome
   o = outcomeOf s cut budget
 
-  -- the answer and the buffer of the equations
-  own : Meets s cut budget old (bufferOf s cut budget old) (answerOf s cut budget (length old))
-  own = accepted-meets s cut budget old ok
-
   module _ (out : List ℕ) (bytes : Below 8 out) (size : length out ≡ length old) where
     written : {answer : ℕ} (m : Meets s cut budget old out answer)
         → out ≡ bytesOf 32 (setOf (take 32 out)) ++ (stepsBytes (stepsIn out (m .count)) ++ drop (32 + 40 * m .count) old)
@@ -101,32 +96,22 @@ module _ (s : List ℕ) (cut budget : ℕ) (old : List ℕ) (ok : refusalOf s cu
         let room : 32 + 40 * m .count ≤ length out = omega (arith, steps-count out (m .count), ok-space s cut budget (length old) ok) in
         buffer-back out (m .count) room bytes ∙ ap (λ (rest : List ℕ). bytesOf 32 (setOf (take 32 out)) ++ (stepsBytes (stepsIn out (m .count)) ++ rest)) (m .kept)
 
-    -- the demands on such a call are the two equations
-    pub meets-equations : (answer : ℕ) → Meets s cut budget old out answer ↔ ((answer ≡ answerOf s cut budget (length old)) × (out ≡ bufferOf s cut budget old))
-    meets-equations answer = (
-      λ m.
-          let ss = as-run s cut budget sheet-ok cut-ok m .0 in
-          let k = count-run s cut budget sheet-ok cut-ok m in
-          let u : setOf (take 32 out) ≡ knowledge (entryAt s) (o .learnt) .known = meets-unique s cut budget sheet-ok cut-ok m own .2 ∙ accepted-known s cut budget old ok in (
-            answer-run s cut budget sheet-ok cut-ok m ∙ sym (accepted-answer s cut budget old ok),
-            written m ∙ (λ i. bytesOf 32 (u i) ++ (stepsBytes (ss i) ++ drop (32 + 40 * k i) old)) ∙ sym (accepted-buffer s cut budget old ok),
-          ),
-      λ (p, q). subst (λ (a : ℕ). Meets s cut budget old out a) (sym p) (subst (λ (b : List ℕ). Meets s cut budget old b (answerOf s cut budget (length old))) (sym q) own),
-    )
+    -- the demands on such a call give the two equations
+    meets-equations : (answer : ℕ) → Meets s cut budget old out answer → (answer ≡ answerOf s cut budget (length old)) × (out ≡ bufferOf s cut budget old)
+    meets-equations answer m =
+        let ss = as-run s cut budget sheet-ok cut-ok m .0 in
+        let k = count-run s cut budget sheet-ok cut-ok m in
+        let u : setOf (take 32 out) ≡ knowledge (entryAt s) (o .learnt) .known = meets-unique s cut budget sheet-ok cut-ok m (accepted-meets s cut budget old ok) .2 ∙ accepted-known s cut budget old ok in (
+          answer-run s cut budget sheet-ok cut-ok m ∙ sym (accepted-answer s cut budget old ok),
+          written m ∙ (λ i. bytesOf 32 (u i) ++ (stepsBytes (ss i) ++ drop (32 + 40 * k i) old)) ∙ sym (accepted-buffer s cut budget old ok),
+        )
 
 -- refused or not: an answer and a buffer of bytes are as demanded exactly when they are those of the equations
 pub demands-equations : (s : List ℕ) (cut budget : ℕ) (old out : List ℕ) (answer : ℕ) → Below 8 out → length out ≡ length old
     → Demanded s cut budget old out answer ↔ ((answer ≡ answerOf s cut budget (length old)) × (out ≡ bufferOf s cut budget old))
-demands-equations s cut budget old out answer bytes size = by-cases (ℕ-discrete (refusalOf s cut budget (length old)) 0) judged refused
-  where
-    judged : refusalOf s cut budget (length old) ≡ 0 → Demanded s cut budget old out answer ↔ ((answer ≡ answerOf s cut budget (length old)) × (out ≡ bufferOf s cut budget old))
-    judged ok =
-        let (to, from) = meets-equations s cut budget old ok out bytes size answer in
-        (λ d. to (d .judged ok), λ e. record { refused = λ n. absurd (n ok); judged = λ p. from e })
-
-    refused : ¬ (refusalOf s cut budget (length old) ≡ 0) → Demanded s cut budget old out answer ↔ ((answer ≡ answerOf s cut budget (length old)) × (out ≡ bufferOf s cut budget old))
-    refused some =
-        let a = refused-answer s cut budget (length old) some in let b = refused-buffer s cut budget old some in (
-          λ d. (d .refused some .0 ∙ a, d .refused some .1 ∙ b),
-          λ (p, q). record { refused = λ n. (p ∙ sym a, q ∙ sym b); judged = λ ok. absurd (some ok) },
-        )
+demands-equations s cut budget old out answer bytes size = (
+  λ d.
+      by-cases (ℕ-discrete (refusalOf s cut budget (length old)) 0) (λ ok. meets-equations s cut budget old ok out bytes size answer (d .judged ok))
+      (λ n. (d .refused n .0 ∙ refused-answer s cut budget (length old) n, d .refused n .1 ∙ refused-buffer s cut budget old n)),
+  λ (p, q). equations-demand s cut budget old out answer p q,
+)

@@ -91,6 +91,23 @@ fn decide(s: &[u8], cut: u16, budget: u16, out: &mut [u8]) -> Ended
     ended
 }
 
+// The answer to a call that isn't refused.
+fn judged(s: &[u8], cut: u16, budget: u16, out: &mut [u8]) -> Answer
+    requires { ⌜ (refusal (now s) ≡ 0) × (cut ≤ traceLength (now s)) × (budget ≤ 256) × (32 + 40 * budget ≤ length (now out)) ⌝ }
+    ensures answer { λ r. ⌜ numberOf r ≡ answerOf (now (s .entry)) cut budget (length (now (out .entry))) ⌝ }
+    ensures few { λ r. ⌜ madeIn r ≤ 256 ⌝ }
+    ensures bytes { λ _. ⌜ now (out .exit) ≡ bufferOf (now (s .entry)) cut budget (now (out .entry)) ⌝ }
+{
+    let ended = decide(s, cut, budget, out);
+    let made = ended.made;
+    let v = ended.verdict;
+    match v {
+        Verdict::Derivable => Answer::Derivable(made),
+        Verdict::Underivable => Answer::Underivable(made),
+        Verdict::Exhausted => Answer::Exhausted(made),
+    }
+}
+
 // Which row of the grounding table refuses the call, if any.
 fn refused(sheet: &[u8], cut: u32, budget: u32, space: usize) -> Refusal
     ensures { λ r. ⌜ codeOf r ≡ refusalOf (now (sheet .entry)) cut budget space ⌝ }
@@ -111,25 +128,24 @@ fn refused(sheet: &[u8], cut: u32, budget: u32, space: usize) -> Refusal
     Refusal::Nothing
 }
 
-// The verdict call. A refusal leaves every byte of out; otherwise out gets the known set, 40 bytes a step, and keeps its later bytes.
+// The verdict call. A refusal leaves every byte of out; otherwise out gets the known set, 40 bytes a step, and keeps its later bytes. Only as many
+// bytes as the budget needs are lent to what follows. (As it calls itself, the compiler keeps the large tables of `judged` out of its frame: a
+// refused call needs little stack.)
 pub fn verdict(sheet: &[u8], cut: u32, budget: u32, out: &mut [u8]) -> Answer
     ensures answer { λ r. ⌜ numberOf r ≡ answerOf (now (sheet .entry)) cut budget (length (now (out .entry))) ⌝ }
     ensures few { λ r. ⌜ madeIn r ≤ 256 ⌝ }
     ensures bytes { λ _. ⌜ now (out .exit) ≡ bufferOf (now (sheet .entry)) cut budget (now (out .entry)) ⌝ }
     ensures demands { λ r. ⌜ Demanded (now (sheet .entry)) cut budget (now (out .entry)) (now (out .exit)) (numberOf r) ⌝ }
 {
+    let need = 32 + 40 * (budget as usize);
+    if need < out.len() {
+        return verdict(sheet, cut, budget, &mut out[..need]);
+    }
     let r = refused(sheet, cut, budget, out.len());
     if dag::code(r) != 0 {
         return Answer::Refused(r);
     }
-    let ended = decide(sheet, cut as u16, budget as u16, out);
-    let made = ended.made;
-    let v = ended.verdict;
-    match v {
-        Verdict::Derivable => Answer::Derivable(made),
-        Verdict::Underivable => Answer::Underivable(made),
-        Verdict::Exhausted => Answer::Exhausted(made),
-    }
+    judged(sheet, cut as u16, budget as u16, out)
 }
 
 // The number of an answer: a refusal's, or the steps made plus 1,000, 2,000 or 3,000.

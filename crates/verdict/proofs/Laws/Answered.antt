@@ -1,15 +1,19 @@
 -- The rows 8 to 10 after 1 to 7, and the answer of a call that is refused or not. Assumes nothing.
 use mathlib.Core.Path.{_≡_, refl, sym, ap, ap₂, _∙_, subst}
 use mathlib.Core.Bool.{Bool, cond}
-use mathlib.Core.List.{List, _++_}
+use mathlib.Core.Logic.{by-cases}
+use mathlib.Core.List.{List, _++_, append-assoc}
 use Prim.Native.Nat.{ℕ, _+_, _*_, _≤_, _<_}
 use native.Mathlib.Nat.{le-trans, le-of-eq}
+use native.Mathlib.Decide.{ℕ-discrete}
 use native.Mathlib.Omega.{arith}
 use borrow.Author.Tests.{lt-ltb, le-ltb, ltb-false, eq-eqb, ne-eqb}
-use lib.Dec.{ltb}
-use lib.ListN.{length, take, drop}
+use lib.Dec.{ltb, eqb}
+use lib.ListN.{length, take, drop, take-append-drop}
+use lib.Seq.{length-take-le, drop-append-le}
 use Rattle.bitset.specs.Words.{bytesOf, setOf}
 use Rattle.deduction.specs.Run.{Verdict, exhausted, Outcome, knowledge}
+use Rattle.deduction.proofs.Steps.Course.{course-budget}
 use Rattle.dag.specs.Sheet.{countOf, traceLength}
 use Rattle.dag.specs.Record.{entryAt}
 use Rattle.dag.specs.Refusal.{when, orElse, refusal}
@@ -22,7 +26,7 @@ use Rattle.verdict.specs.Refused.{refusalOf}
 use Rattle.verdict.specs.Demands.{verdictCode, stepsIn, Meets, Demanded}
 use Rattle.verdict.specs.Answer.{outcomeOf, answerOf, bufferOf}
 use Rattle.verdict.specs.Inner.Decide.{Decided}
-use Rattle.verdict.proofs.Laws.Demands.{few-steps, known-read, steps-read, run-ends, meets}
+use Rattle.verdict.proofs.Laws.Demands.{few-steps, known-read, steps-read, run-ends, run-is-course, meets}
 
 module _ (s : List ℕ) (cut budget space : ℕ) where
   row8 : ℕ
@@ -123,9 +127,6 @@ refused-buffer s cut budget old n =
     old)
     (ne-eqb (refusalOf s cut budget (length old)) 0 n))
 
-pub refused-demands : (s : List ℕ) (cut budget : ℕ) (old : List ℕ) (answer : ℕ) → answer ≡ refusalOf s cut budget (length old) → (refusalOf s cut budget (length old) ≡ 0 → ⊥) → Demanded s cut budget old old answer
-refused-demands s cut budget old answer p n = record { refused = λ _. (p, refl); judged = λ z. absurd (n z) }
-
 -- a call that isn't refused, by the definitions: its answer, its buffer, and what is read back from that
 module _ (s : List ℕ) (cut budget : ℕ) (old : List ℕ) (ok : refusalOf s cut budget (length old) ≡ 0) where
   abbrev o : Outcome
@@ -182,11 +183,55 @@ module _ (s : List ℕ) (cut budget : ℕ) (out out′ : List ℕ) (r : Ended) (
   pub answered-buffer : out′ ≡ bufferOf s cut budget out
   answered-buffer = d .bytes ∙ sym (accepted-buffer s cut budget out ok)
 
-  pub answered-demands : Demanded s cut budget out out′ (verdictCode (verdictOf v) + r .made)
-  answered-demands =
-      record {
-        refused = λ n. absurd (n ok);
-        judged = λ p.
-            subst (λ (a : ℕ). Meets s cut budget out out′ a) (sym answered)
-            (subst (λ (b : List ℕ). Meets s cut budget out b (answerOf s cut budget (length out))) (sym answered-buffer) (accepted-meets s cut budget out ok));
-      }
+-- what the equations give is as demanded, refused or not
+pub equations-demand : (s : List ℕ) (cut budget : ℕ) (old out : List ℕ) (answer : ℕ) → answer ≡ answerOf s cut budget (length old) → out ≡ bufferOf s cut budget old → Demanded s cut budget old out answer
+equations-demand s cut budget old out answer p q =
+    record {
+      refused = λ n. (p ∙ sym (refused-answer s cut budget (length old) n), q ∙ sym (refused-buffer s cut budget old n));
+      judged = λ ok.
+          subst (λ (a : ℕ). Meets s cut budget old out a) (sym p)
+          (subst (λ (b : List ℕ). Meets s cut budget old b (answerOf s cut budget (length old))) (sym q) (accepted-meets s cut budget old ok));
+    }
+
+-- a buffer that is longer than the budget needs: the same answer, and the bytes past the need as they were
+module _ (s : List ℕ) (cut budget : ℕ) where
+  refusal-enough : (a b : ℕ) → 32 + 40 * budget ≤ a → 32 + 40 * budget ≤ b → refusalOf s cut budget a ≡ refusalOf s cut budget b
+  unfolding refusalOf
+  refusal-enough a b ha hb =
+      ap (λ (t : Bool). orElse (refusal s) (orElse (when (ltb (traceLength s) cut) 8) (orElse (when (ltb 256 budget) 9) (when t 10))))
+      (le-ltb a (32 + 40 * budget) ha ∙ sym (le-ltb b (32 + 40 * budget) hb))
+
+  pub answer-enough : (a b : ℕ) → 32 + 40 * budget ≤ a → 32 + 40 * budget ≤ b → answerOf s cut budget a ≡ answerOf s cut budget b
+  unfolding answerOf
+  answer-enough a b ha hb =
+      ap (λ (r : ℕ). cond (eqb r 0) (verdictCode (outcomeOf s cut budget .verdict) + length (outcomeOf s cut budget .steps)) r) (refusal-enough a b ha hb)
+
+  pub buffer-enough : (old : List ℕ) → 32 + 40 * budget ≤ length old → bufferOf s cut budget (take (32 + 40 * budget) old) ++ drop (32 + 40 * budget) old ≡ bufferOf s cut budget old
+  buffer-enough old h = by-cases (ℕ-discrete (refusalOf s cut budget (length old)) 0) judged refused
+    where
+      need : ℕ
+      need = 32 + 40 * budget
+
+      part : List ℕ
+      part = take need old
+
+      same : refusalOf s cut budget (length part) ≡ refusalOf s cut budget (length old)
+      same = refusal-enough (length part) (length old) (le-of-eq (sym (length-take-le need old h))) h
+
+      refused : (refusalOf s cut budget (length old) ≡ 0 → ⊥) → bufferOf s cut budget part ++ drop need old ≡ bufferOf s cut budget old
+      refused n =
+          ap (λ (b : List ℕ). b ++ drop need old) (sym (refused-buffer s cut budget part (λ p. n (sym same ∙ p))))
+          ∙ take-append-drop need old ∙ refused-buffer s cut budget old n
+
+      judged : refusalOf s cut budget (length old) ≡ 0 → bufferOf s cut budget part ++ drop need old ≡ bufferOf s cut budget old
+      judged ok =
+          let o : Outcome = outcomeOf s cut budget in
+          let front : List ℕ = bytesOf 32 (knowledge (entryAt s) (o .learnt) .known) in
+          let few : length (o .steps) ≤ budget = course-budget (run-is-course s cut budget (ok-sheet s cut budget (length old) ok) (ok-cut s cut budget (length old) ok)) in
+          let m : ℕ = 32 + 40 * length (o .steps) in
+          ap (λ (b : List ℕ). b ++ drop need old) (accepted-buffer s cut budget part (same ∙ ok))
+          ∙ append-assoc front (stepsBytes (o .steps) ++ drop m part) (drop need old)
+          ∙ ap (λ (b : List ℕ). front ++ b)
+          (append-assoc (stepsBytes (o .steps)) (drop m part) (drop need old)
+          ∙ ap (λ (b : List ℕ). stepsBytes (o .steps) ++ b) (sym (drop-append-le m part (drop need old) (omega (arith, length-take-le need old h))) ∙ ap (drop m) (take-append-drop need old)))
+          ∙ sym (accepted-buffer s cut budget old ok)
