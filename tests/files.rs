@@ -101,7 +101,7 @@ fn good_writes(c: &mut Checks) {
         ("an old file", "echo old >out; \"$sheet\" assemble a.sheet -o out && cat out"),
         ("a new file", "rm -f out; \"$sheet\" assemble a.sheet -o out && cat out"),
         ("a file elsewhere", "mkdir -p in; \"$sheet\" assemble a.sheet -o in/out && cat in/out"),
-        ("a pipe by name", "mkfifo pipe; cat pipe & \"$sheet\" assemble a.sheet -o pipe; s=$?; : 1<>pipe; wait; exit $s"),
+        ("a pipe by name", "mkfifo pipe; exec 9<>pipe; \"$sheet\" assemble a.sheet -o pipe; s=$?; dd if=pipe iflag=nonblock bs=65536 2>/dev/null; exit $s"),
         ("/dev/stdout", "\"$sheet\" assemble a.sheet -o /dev/stdout | cat"),
         ("/dev/stdout that is a file keeps that file", ": >out; ln out twin; \"$sheet\" assemble a.sheet -o /dev/stdout >out && cat twin"),
         ("a descriptor", "\"$sheet\" assemble a.sheet -o /dev/fd/3 3>out && cat out"),
