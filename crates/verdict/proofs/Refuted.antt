@@ -2,8 +2,8 @@
 -- Shown: on sheet A a rung too many, a rung missing, out of reach for a derivable goal, reached beyond the budget, a copied rung, a head too many or
 -- too few in the gained set; a wrong source and a missed goal in the replay; out of reach before the last rung. By computation. Assumes nothing.
 use mathlib.Core.Path.{_≡_, refl, sym, ap, ap₂, _∙_, subst}
-use mathlib.Core.Bool.{Bool, true, false, true≢false}
-use mathlib.Core.Logic.{_⊎_, inl, inr, _↔_}
+use mathlib.Core.Bool.{true, false, true≢false}
+use mathlib.Core.Logic.{inl, inr, _↔_}
 use mathlib.Core.List.{List, [], _∷_, _++_, map, List·Memᴰ, List·Memᴰ·head, List·Memᴰ·not-nil, List·Memᴰ·cases-cons}
 use Prim.Native.Nat.{ℕ, zero, suc, _+_, _≤_, _<_}
 use native.Mathlib.Omega.{arith}
@@ -23,7 +23,7 @@ use Rattle.deduction.proofs.Standard.{rep-equal}
 use Rattle.deduction.proofs.Distinct.{enc-parts}
 use Rattle.deduction.proofs.Steps.Replay.{endState, end-exact, replays-end}
 use Rattle.deduction.proofs.Steps.Fields.{right-decrypt}
-use Rattle.dag.specs.Sheet.{numberAt, countOf, traceLength, traceOf, beginAt, listed}
+use Rattle.dag.specs.Sheet.{numberAt, traceLength, traceOf, beginAt, listed}
 use Rattle.dag.specs.Record.{entryAt, fits, decodeAs}
 use Rattle.dag.specs.Refusal.{when, orElse, first, equal, anyFrom, noSheet, badCount, shortList, badPair, badPairs, badRecord, badRecords, notListed, refusal}
 use Rattle.dag.proofs.Laws.Good.{good}

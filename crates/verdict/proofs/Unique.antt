@@ -1,31 +1,31 @@
 -- The demands alone determine the call.
 -- Shown: `meets-unique`, two answers and buffers that meet the demands for one sheet, cut and budget have equal numbers, rungs and gained sets;
--- `demands-equations`, for a buffer of bytes of the old length the demands hold exactly when answer and buffer are those of the equations with the run, refused or not. So nobody has to believe the run or the elimination. Assumes nothing.
+-- `demands-equations`, for a buffer of bytes of the old length the demands hold exactly when answer and buffer are those of the equations with the run, refused or not;
+-- `demands-unique`, so they determine every byte. So nobody has to believe the run or the elimination. Assumes nothing.
 use mathlib.Core.Path.{_≡_, refl, sym, ap, ap₂, _∙_, subst}
-use mathlib.Core.Bool.{Bool, true, false, true≢false}
+use mathlib.Core.Bool.{Bool, true, false}
 use mathlib.Core.Logic.{_↔_, by-cases}
-use mathlib.Core.List.{List, [], _∷_, _++_, map, List·Memᴰ}
-use Prim.Native.Nat.{ℕ, zero, suc, _+_, _*_, _^_, _≤_, _<_}
+use mathlib.Core.List.{List, _++_, map, List·Memᴰ}
+use Prim.Native.Nat.{ℕ, zero, suc, _+_, _*_, _≤_}
 use native.Mathlib.Decide.{ℕ-discrete}
 use native.Mathlib.Omega.{arith}
-use lib.ListN.{length, take, drop, getD, take-append-drop, length-append}
-use lib.Seq.{take-add, length-take-le}
+use lib.ListN.{length, take, drop, length-append}
 use Rattle.bitset.specs.Set.{member}
 use Rattle.bitset.specs.Words.{setOf, bytesOf}
 use Rattle.bitset.proofs.Laws.Member.{same-members}
-use Rattle.bitset.proofs.Laws.Words.{Below, packed-injective}
+use Rattle.bitset.proofs.Laws.Words.{Below}
 use Rattle.deduction.specs.Step.{Step}
 use Rattle.deduction.specs.Run.{Outcome, knowledge}
 use Rattle.deduction.proofs.Steps.{course-unique}
 use Rattle.deduction.proofs.Steps.Course.{course-budget}
-use Rattle.dag.specs.Sheet.{numberAt, countOf, goalOf, traceLength}
+use Rattle.dag.specs.Sheet.{countOf, goalOf, traceLength}
 use Rattle.dag.specs.Record.{entryAt}
 use Rattle.dag.specs.Refusal.{refusal}
 use Rattle.dag.proofs.Laws.Good.{good}
 use Rattle.derive.specs.Bytes.{stepsBytes}
 use Rattle.verdict.specs.Start.{startHeads}
 use Rattle.verdict.specs.Refused.{refusalOf}
-use Rattle.verdict.specs.Demands.{verdictCode, readStep, stepsIn, gainedHeads, Meets, Demanded}
+use Rattle.verdict.specs.Demands.{verdictCode, stepsIn, Meets, Demanded}
 use Rattle.verdict.specs.Answer.{outcomeOf, answerOf, bufferOf}
 use Rattle.verdict.proofs.Laws.Readback.{buffer-back}
 use Rattle.verdict.proofs.Laws.Demands.{start-is-heads, run-is-course}
@@ -115,3 +115,11 @@ demands-equations s cut budget old out answer bytes size = (
       (λ n. (d .refused n .0 ∙ refused-answer s cut budget (length old) n, d .refused n .1 ∙ refused-buffer s cut budget old n)),
   λ (p, q). equations-demand s cut budget old out answer p q,
 )
+
+-- so two answers and buffers of bytes that are as demanded after one buffer are equal, byte for byte
+pub demands-unique : (s : List ℕ) (cut budget : ℕ) (old out out′ : List ℕ) (answer answer′ : ℕ) → Below 8 out → Below 8 out′ → length out ≡ length old → length out′ ≡ length old
+    → Demanded s cut budget old out answer → Demanded s cut budget old out′ answer′ → (answer ≡ answer′) × (out ≡ out′)
+demands-unique s cut budget old out out′ answer answer′ b b′ l l′ d d′ =
+    let (p, q) = demands-equations s cut budget old out answer b l .0 d in
+    let (p′, q′) = demands-equations s cut budget old out′ answer′ b′ l′ .0 d′ in
+    (p ∙ sym p′, q ∙ sym q′)

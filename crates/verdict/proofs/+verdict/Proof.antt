@@ -8,7 +8,6 @@ use lib.ListN.{length, take, drop}
 use lib.Seq.{length-take-le}
 use borrow.Author.Needs.{needs}
 use denote.Ref.{now}
-use Rattle.dag.specs.Sheet.{traceLength}
 use Rattle.dag.proofs.Laws.Good.{good}
 use Rattle.verdict.specs.Refused.{refusalOf}
 use Rattle.verdict.proofs.Laws.Answered.{ok-sheet, ok-cut, ok-budget, ok-space, refused-answer, refused-buffer, equations-demand, answer-enough, buffer-enough}
