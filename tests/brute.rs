@@ -224,10 +224,26 @@ fn large(t: &mut Tally) -> u32 {
     wrong
 }
 
+// Each entry number in its own byte and bit, on sheets of 256 entries. Of 256 atoms one is heard; and a sum of two atoms and the second of
+// them are heard, by which a sum and a join gain the first and the pair of both.
+fn every_entry(t: &mut Tally) {
+    let atoms: Vec<Entry> = (0..256).map(|i| Entry::Atom(1000 + i)).collect();
+    for e in 0..256 {
+        t.call(&sheet(&atoms, &[e], e), 1, 0, 32);
+    }
+    for e in 0..254 {
+        let f = (e + 61) % 254;
+        let mut entries = atoms[..254].to_vec();
+        entries.extend([Entry::Sum(vec![e, f]), Entry::Pair(e, f)]);
+        t.call(&sheet(&entries, &[254, f], 255), 2, 2, 112);
+    }
+}
+
 fn main() {
     let mut t = Tally { calls: 0, failed: 0, reached: 0, out: 0, stopped: 0, refused: 0 };
     let mut r = Random(0x2545f4914f6cdd1d);
     let wrong = cases(&mut t) + large(&mut t);
+    every_entry(&mut t);
     small_sheets(&mut t, &mut r);
     let (tried, failed) = off_sheet(&mut r);
     println!("brute force: {} calls, {} reached, {} out of reach, {} stopped, {} refused; off the sheet: {} tried", t.calls, t.reached, t.out, t.stopped, t.refused, tried);

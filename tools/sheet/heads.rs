@@ -16,7 +16,7 @@ pub fn add(a: Set, b: Set) -> Set {
 
 fn single(entry: usize) -> Set {
     let mut set = [0; 4];
-    set[entry / 64 % 4] = 1 << (entry % 64);
+    set[entry >> 6 & 3] = 1 << (entry & 63);
     set
 }
 

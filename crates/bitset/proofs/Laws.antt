@@ -1,4 +1,5 @@
 pub mod Member
+pub mod Place
 pub mod Leading
 pub mod Words
 pub mod Top

@@ -2,7 +2,7 @@
 // A set's meaning is one natural number, `value` of its words (specs/Words.antt); the contracts speak of that number.
 ghost use mathlib.Core.Path.{_≡_};
 ghost use mathlib.Core.List.{_++_};
-ghost use Prim.Native.Nat.{_+_, _*_, _<_, _^_};
+ghost use Prim.Native.Nat.{_+_, _*_, _/_, _%_, _<_, _^_};
 ghost use lib.Bits.{bitXor};
 ghost use lib.Count.{ones};
 ghost use lib.Dec.{eqb, leb};
@@ -16,6 +16,20 @@ pub fn empty() -> [u64; 4]
     ensures { λ r. ⌜ value r ≡ 0 ⌝ }
 {
     [0, 0, 0, 0]
+}
+
+// The number of the word that has entry e: the quotient by 64, by a shift.
+fn word_of(e: u8) -> u8
+    ensures { λ r. ⌜ r ≡ e / 64 ⌝ }
+{
+    e >> 6
+}
+
+// The number of entry e's bit in that word: the remainder by 64, by a mask.
+fn bit_of(e: u8) -> u8
+    ensures { λ r. ⌜ r ≡ e % 64 ⌝ }
+{
+    e & 63
 }
 
 // Word w of s: by tests and not by an index, so that a set in registers stays there.
@@ -39,7 +53,7 @@ fn nth(s: [u64; 4], w: u8) -> u64
 pub fn member(s: [u64; 4], e: u8) -> bool
     ensures { λ r. ⌜ r ≡ member (value s) e ⌝ }
 {
-    (nth(s, e / 64) >> (e % 64)) % 2 == 1
+    (nth(s, word_of(e)) >> bit_of(e)) % 2 == 1
 }
 
 // Exactly e.
@@ -47,7 +61,7 @@ pub fn singleton(e: u8) -> [u64; 4]
     ensures { λ r. ⌜ value r ≡ single e ⌝ }
 {
     let mut r: [u64; 4] = [0, 0, 0, 0];
-    r[(e / 64) as usize] = 1 << (e % 64);
+    r[word_of(e) as usize] = 1 << bit_of(e);
     r
 }
 

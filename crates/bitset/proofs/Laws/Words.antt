@@ -110,14 +110,9 @@ module _ (k : ℕ) where
       (lt-of-lt-of-le (digits-lt (leading-high v) h) (le-of-eq (sym (pow-add 2 (suc (leading v)) k) ∙ ap (λ (y : ℕ). 2 ^ y) (suc-add (leading v) k))))
 
 -- a member of the set that words hold is a bit of one word
-pub value-member : (ws : List ℕ) → Below 64 ws → (e : ℕ) → member (value ws) e ≡ eqb (getD ws (e / 64) 0 / 2 ^ (e % 64) % 2) 1
+pub value-member : (ws : List ℕ) → Below 64 ws → (w b : ℕ) → b < 64 → member (value ws) (w * 64 + b) ≡ eqb (getD ws w 0 / 2 ^ b % 2) 1
 unfolding member
-value-member ws h e =
-    ap (λ (x : ℕ). eqb x 1)
-    (ap (λ (x : ℕ). value ws / 2 ^ x % 2) (sym (div-add-mod' e 64)) ∙ packed-part 64 ws h (e / 64) (e % 64) 1 (room (mod-lt e (pow-pos 6))))
-  where
-    room : e % 64 < 64 → 1 + e % 64 ≤ 64
-    room p = omega arith
+value-member ws h w b l = ap (λ (x : ℕ). eqb x 1) (packed-part 64 ws h w b 1 (omega arith))
 
 -- a byte of the set that words hold lies in one word
 pub value-byte : (ws : List ℕ) → Below 64 ws → (i : ℕ) → byteOf (value ws) i ≡ getD ws (i / 8) 0 / 2 ^ (i % 8 * 8) % 2 ^ 8
@@ -148,17 +143,17 @@ zeros (suc (suc (suc zero))) = refl
 zeros (suc (suc (suc (suc q)))) = refl
 
 -- one bit among four words of zeros
-pub value-single : (e : ℕ) → e / 64 < 4 → value (set (0 ∷ 0 ∷ 0 ∷ 0 ∷ []) (e / 64) (1 * 2 ^ (e % 64) % 2 ^ 64)) ≡ 2 ^ e
+pub value-single : (w b : ℕ) → w < 4 → b < 64 → value (set (0 ∷ 0 ∷ 0 ∷ 0 ∷ []) w (1 * 2 ^ b % 2 ^ 64)) ≡ 2 ^ (w * 64 + b)
 unfolding packed
-value-single e l =
-    ap (λ (x : ℕ). value (set (0 ∷ 0 ∷ 0 ∷ 0 ∷ []) (e / 64) x)) (exact ∙ ap (λ (x : ℕ). x + 2 ^ (e % 64)) (sym (zeros (e / 64))))
-    ∙ packed-add 64 (0 ∷ 0 ∷ 0 ∷ 0 ∷ []) (e / 64) (2 ^ (e % 64)) l
-    ∙ zero-add (2 ^ (e % 64) * 2 ^ (e / 64 * 64))
-    ∙ sym (pow-add 2 (e % 64) (e / 64 * 64))
-    ∙ ap (λ (x : ℕ). 2 ^ x) (add-comm (e % 64) (e / 64 * 64) ∙ div-add-mod' e 64)
+value-single w b l m =
+    ap (λ (x : ℕ). value (set (0 ∷ 0 ∷ 0 ∷ 0 ∷ []) w x)) (exact ∙ ap (λ (x : ℕ). x + 2 ^ b) (sym (zeros w)))
+    ∙ packed-add 64 (0 ∷ 0 ∷ 0 ∷ 0 ∷ []) w (2 ^ b) l
+    ∙ zero-add (2 ^ b * 2 ^ (w * 64))
+    ∙ sym (pow-add 2 b (w * 64))
+    ∙ ap (λ (x : ℕ). 2 ^ x) (add-comm b (w * 64))
   where
-    exact : 1 * 2 ^ (e % 64) % 2 ^ 64 ≡ 0 + 2 ^ (e % 64)
-    exact = ap (λ (x : ℕ). x % 2 ^ 64) (one-mul (2 ^ (e % 64))) ∙ mod-eq-of-lt (pow-lt (mod-lt e (pow-pos 6))) ∙ sym (zero-add (2 ^ (e % 64)))
+    exact : 1 * 2 ^ b % 2 ^ 64 ≡ 0 + 2 ^ b
+    exact = ap (λ (x : ℕ). x % 2 ^ 64) (one-mul (2 ^ b)) ∙ mod-eq-of-lt (pow-lt m) ∙ sym (zero-add (2 ^ b))
 
 -- the sum of four words and four words
 pub value-sum : (a b : List ℕ) → length a ≡ 4 → length b ≡ 4 → Below 64 a → Below 64 b
