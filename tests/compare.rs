@@ -1,6 +1,6 @@
-// Two archives in one process: the library as it stands, and the library of an earlier revision with its symbols renamed. Every answer and
-// every byte is compared, on sheets good and damaged, small and large; then the two are timed in turn, call by call. For changes that leave
-// calls alone. Built by tests/compare; not part of the gate, since it needs the earlier archive.
+// The library as it stands and that of an earlier revision, whose symbols are renamed: every answer and every byte is compared, on sheets
+// good and damaged, small and large. Then the benchmark, built once over each archive, is run over both in turn. For changes that leave calls
+// alone. Built by tests/compare; not part of the gate, since it needs the earlier archive.
 
 #[allow(dead_code)]
 mod sheets;
@@ -8,7 +8,7 @@ mod sheets;
 mod kinds;
 use kinds::Parts;
 use sheets::{damage, random_entries, sheet, Random};
-use std::time::Instant;
+use std::process::Command;
 
 extern "C" {
     fn zuwendryk_verdict(sheet: *const u8, sheet_len: usize, cut: u32, budget: u32, buffer: *mut u8, buffer_len: usize) -> u32;
@@ -16,8 +16,6 @@ extern "C" {
     fn earlier_verdict(sheet: *const u8, sheet_len: usize, cut: u32, budget: u32, buffer: *mut u8, buffer_len: usize) -> u32;
     fn earlier_validate(sheet: *const u8, sheet_len: usize) -> u32;
 }
-
-type Call = fn(&[u8], u32, u32, &mut [u8]) -> u32;
 
 // In each call both areas are slices, so neither pointer is null and they don't overlap.
 fn now(s: &[u8], cut: u32, budget: u32, out: &mut [u8]) -> u32 {
@@ -68,9 +66,6 @@ impl Tally {
     }
 }
 
-const KINDS: [(&str, fn(usize) -> Parts); 6] =
-    [("joins", kinds::joins), ("sums", kinds::sums), ("seals", kinds::seals), ("mixed", kinds::mixed), ("stuck", kinds::stuck), ("random", kinds::random)];
-
 fn made((entries, heard, goal): Parts) -> Vec<u8> {
     sheet(&entries, &heard, goal)
 }
@@ -90,7 +85,7 @@ fn answers(t: &mut Tally) {
         let n = 8 + r.below(249) as usize;
         both(made(kinds::drawn(n, seed)), &mut r);
     }
-    for (_, kind) in KINDS {
+    for kind in [kinds::joins, kinds::sums, kinds::seals, kinds::mixed, kinds::stuck, kinds::longest] {
         for n in (32..=256).step_by(2) {
             both(made(kind(n)), &mut r);
         }
@@ -99,42 +94,44 @@ fn answers(t: &mut Tally) {
 
 // ---- time
 
-fn median(mut times: Vec<f64>) -> f64 {
-    times.sort_by(|a, b| a.partial_cmp(b).unwrap());
-    times[times.len() / 2]
+// A row of the benchmark: kind and size of the sheet, the library's microseconds, and their ratio to those of plain Rust in the same run.
+struct Row {
+    sheet: String,
+    time: f64,
+    ratio: f64,
 }
 
-// The microseconds of a call now and earlier: the two called in turn, each first every other time, the median of 200 calls each.
-fn measure(s: &[u8], cut: u32) -> [f64; 2] {
-    let calls: [Call; 2] = [now, earlier];
-    let mut out = vec![0u8; 32 + 40 * 256];
-    let mut times = [vec![], vec![]];
-    for k in 0..400 {
+fn row(line: &str) -> Option<Row> {
+    let words: Vec<&str> = line.split_whitespace().collect();
+    let number = |i: usize| words.get(i)?.parse::<f64>().ok();
+    let (n, time, plain) = (number(1)?, number(2)?, number(3)?);
+    Some(Row { sheet: format!("{:8} {n:4}", words[0]), time, ratio: time / plain })
+}
+
+fn run(bench: &str) -> Vec<Row> {
+    let output = Command::new(bench).output().expect("the benchmark runs");
+    String::from_utf8(output.stdout).expect("the benchmark prints text").lines().filter_map(row).collect()
+}
+
+fn sorted(values: impl Iterator<Item = f64>) -> Vec<f64> {
+    let mut all: Vec<f64> = values.collect();
+    all.sort_by(|a, b| a.partial_cmp(b).unwrap());
+    all
+}
+
+// The benchmark over either archive, ten runs each, in turn. The machine's speed may change between two runs; the ratio to plain Rust, whose
+// calls are made in turn with the library's, then changes less than the time.
+fn times(benches: &[String]) {
+    let mut runs: [Vec<Vec<Row>>; 2] = [vec![], vec![]];
+    for k in 0..20 {
         let i = (k + k / 2) % 2;
-        let begin = Instant::now();
-        calls[i](s, cut, 256, &mut out);
-        times[i].push(begin.elapsed().as_secs_f64() * 1e6);
+        runs[i].push(run(&benches[i]));
     }
-    times.map(median)
-}
-
-fn range(values: &[f64]) -> [f64; 3] {
-    let mut sorted = values.to_vec();
-    sorted.sort_by(|a, b| a.partial_cmp(b).unwrap());
-    [sorted[0], sorted[sorted.len() / 2], sorted[sorted.len() - 1]]
-}
-
-fn times() {
-    println!("sheet       n         now us     earlier us   now to earlier: least, middle, most of ten");
-    for (name, kind) in KINDS {
-        for n in [32, 256] {
-            let (entries, heard, goal) = kind(n);
-            let s = sheet(&entries, &heard, goal);
-            let rounds: Vec<[f64; 2]> = (0..10).map(|_| measure(&s, heard.len() as u32)).collect();
-            let column = |f: fn(&[f64; 2]) -> f64| range(&rounds.iter().map(f).collect::<Vec<f64>>());
-            let (a, b, q) = (column(|t| t[0]), column(|t| t[1]), column(|t| t[0] / t[1]));
-            println!("{name:8} {n:4} {:6.1} {:7.1} {:6.1} {:7.1}   {:.3} {:.3} {:.3}", a[0], a[2], b[0], b[2], q[0], q[1], q[2]);
-        }
+    println!("                 least us         to plain Rust of the same run: least, middle, most of ten");
+    println!("sheet       n       now   earlier   now                    earlier");
+    for (i, first) in runs[0][0].iter().enumerate() {
+        let [(now, a), (earlier, b)] = [0, 1].map(|w| (sorted(runs[w].iter().map(|r| r[i].time))[0], sorted(runs[w].iter().map(|r| r[i].ratio))));
+        println!("{} {now:9.1} {earlier:9.1}   {:.2}   {:.2}   {:.2}     {:.2}   {:.2}   {:.2}", first.sheet, a[0], a[5], a[9], b[0], b[5], b[9]);
     }
 }
 
@@ -146,5 +143,5 @@ fn main() {
     if t.failed > 0 || t.verdicts.iter().any(|&v| v < 1000) {
         std::process::exit(1);
     }
-    times();
+    times(&std::env::args().skip(1).collect::<Vec<String>>());
 }
