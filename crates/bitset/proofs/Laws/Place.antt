@@ -1,6 +1,7 @@
 -- The place of a number in words of 2^k bits: which word, and which bit of it.
 -- Shown, for every number and every width: a shift right by k is the quotient by 2^k; a mask of k ones is the remainder; word and bit
--- together give the number back, and no other word and bit do. Assumes nothing.
+-- together give the number back, and no other word and bit do. A shift is told by its bits: the language defines `e >> k` as the quotient,
+-- so that alone would say nothing. Assumes nothing.
 use mathlib.Core.Path.{_≡_, sym, ap, ap₂, _∙_}
 use Prim.Native.Nat.{ℕ, _+_, _-_, _*_, _/_, _%_, _^_, _<_}
 use lib.Bits.{bitAnd, and-mask}
