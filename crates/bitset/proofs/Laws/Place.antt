@@ -20,7 +20,7 @@ module _ (k : ℕ) where
   pub shift-quotient : (e q : ℕ) → ((i : ℕ) → member q i ≡ member e (k + i)) → q ≡ e / 2 ^ k
   shift-quotient e q h = same-members q (e / 2 ^ k) (λ i. h i ∙ sym (shift-bits e i))
 
-  -- masking with k ones is the remainder
+  -- masking with k ones is the remainder: `and-mask` of the language's library, named here beside the shift
   pub mask-remainder : (e : ℕ) → bitAnd e (2 ^ k - 1) ≡ e % 2 ^ k
   mask-remainder e = and-mask e k
 
