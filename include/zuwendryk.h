@@ -2,8 +2,8 @@
  *
  * A sheet is a numbered table of up to 256 terms: zero, atoms, pairs, terms sealed under a key term, and sums by exclusive or. It also lists
  * the messages that were heard, in order, and names one entry as the goal. The calls here judge whether a listener gains the goal from the
- * messages heard before a cut. "Reached" comes with the steps, called rungs. "Out of reach" is proved: no finite row of steps whatever,
- * through terms of any size, gains the goal.
+ * names on the hull label and the messages heard before a cut. "Reached" comes with the steps, called rungs. "Out of reach" is proved: no
+ * finite row of steps whatever, through terms of any size, gains the goal.
  *
  * This header is the manual: version, linking, the sheet's bytes, the rules, the answers, the buffer's bytes, stack, what a caller owes and what
  * is proved, then the two calls. examples/build.c makes a sheet and asks for its verdict; examples/verdict.c reads one from a file.
@@ -18,11 +18,13 @@
 extern "C" {
 #endif
 
-/* VERSION. The same stands in zuwendryk.pc and in what `sheet --version` prints. */
-#define ZUWENDRYK_VERSION_MAJOR 1
+/* VERSION. The same stands in zuwendryk.pc and in what `sheet --version` prints. The first number changes when a sheet can get another answer or
+ * the buffer another layout: since 2.0.0 atoms 0 to 255 are on the hull label. A sheet that was made for version 1 and uses such numbers for
+ * secrets has to be numbered anew. */
+#define ZUWENDRYK_VERSION_MAJOR 2
 #define ZUWENDRYK_VERSION_MINOR 0
 #define ZUWENDRYK_VERSION_PATCH 0
-#define ZUWENDRYK_VERSION "1.0.0"
+#define ZUWENDRYK_VERSION "2.0.0"
 
 /* LINKING
  *
@@ -66,7 +68,7 @@ extern "C" {
  *     kind        numbers         length    the entry's term
  *     0 zero      none            1         the sum of nothing
  *     1 atom      its own         3         a key, a nonce, a name: anything without parts. Its number is any, 0 to 65,535; the same number
- *                                           is the same atom
+ *                                           is the same atom; 0 to 255 are the board's names on the hull label, which everyone knows
  *     2 pair      left, right     5         the two terms side by side
  *     3 seal      message, key    5         the message sealed under the key; any entry may be a key
  *     4 sum       0 to 64 items   1 + 2k    the sum of its k items by exclusive or. An item may stand there again, and then cancels out
@@ -84,6 +86,8 @@ extern "C" {
 #define ZUWENDRYK_MOST_HEARD 256
 #define ZUWENDRYK_MOST_ITEMS 64       /* of one sum */
 #define ZUWENDRYK_LONGEST_SHEET 34444 /* bytes; 255 sums of 64 items over one atom, and 256 heard messages */
+
+#define ZUWENDRYK_NAMES 256           /* atoms with a lower number are names on the hull label */
 
 #define ZUWENDRYK_KIND_ZERO 0
 #define ZUWENDRYK_KIND_ATOM 1
@@ -103,7 +107,8 @@ extern "C" {
 #define ZUWENDRYK_HEARD_AT(n) (ZUWENDRYK_PLACES_AT + 4 * ZUWENDRYK_SIZE(n))
 #define ZUWENDRYK_RECORDS_AT(n, h) (ZUWENDRYK_HEARD_AT(n) + 2 * ZUWENDRYK_SIZE(h))
 
-/* RULES. A listener starts with the heard messages before the cut, and gains one term a rung:
+/* RULES. A listener starts with the names on the hull label, which are the atoms 0 to 255 that stand on the sheet, in the order of their entries, also at
+ * cut 0; then come the heard messages before the cut, in their order. Each is gained as its head. Then one term is gained a rung:
  *
  *     rule        gains                                  first source    second source    set
  *     1 left      the left of a pair                     the pair        65,535           zero
@@ -149,7 +154,8 @@ extern "C" {
 /* THE BUFFER'S BYTES after a call that wasn't refused. Numbers have 2 bytes, the high one first.
  *
  *     offset          bytes   content
- *     0               32      the gained set: entry e is the bit of value 1 << e % 8 in byte e / 8. Only heads stand in it
+ *     0               32      the gained set: entry e is the bit of value 1 << e % 8 in byte e / 8. Only heads stand in it, those of names and
+ *                             messages too
  *     32 + 40i        40      rung i, counted from 0 in the order made:
  *       + 0           2         the gained entry
  *       + 2           2         the rule, 1 to 6
@@ -182,7 +188,7 @@ extern "C" {
 /* WHAT IS PROVED, by machine, for every sheet, cut, budget and buffer for which the caller gives what it owes: which number comes back; every byte
  * of the buffer afterwards; that the verdict is right; that no memory but the two areas and the stack is touched; and that the call ends. A verdict
  * is right when out of reach comes only where no finite row of steps gains the goal, through terms on the sheet or not, and with a budget of n or
- * more always there; and when the rungs of a reached goal follow from the messages and from each other, gain it, and are at most n. Assumed
+ * more always there; and when the rungs of a reached goal follow from names, messages and each other, gain it, and are at most n. Assumed
  * are the checker, the compiler's back end, and that keys are perfect: a seal shows nothing without its key. */
 
 /* The verdict on a sheet after the first `cut` heard messages, 0 to h, with at most `budget` rungs, 0 to 256. The answers and the buffer's bytes are

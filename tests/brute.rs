@@ -1,11 +1,11 @@
-// The verdict, by brute force: the whole answer and buffer recomputed from document 01's text (reading.rs) and compared with the library, and
+// The verdict, by brute force: the whole answer and buffer recomputed from the documents' text (reading.rs) and compared with the library, and
 // on the smallest sheets the claim "out of reach" tried against everything that can be made off the sheet up to a size.
 
 #[allow(dead_code)] // each test uses a part
 mod sheets;
 #[allow(dead_code)]
 mod reading;
-use reading::{add, expected, one, read, single, size, work, Answer, Piece, Term};
+use reading::{add, expected, one, read, single, size, start, work, Answer, Piece, Term};
 use sheets::{damage, random_entries, sheet, Entry, Random};
 use std::collections::BTreeSet;
 use std::rc::Rc;
@@ -130,7 +130,7 @@ fn off_sheet(r: &mut Random) -> (u64, u64) {
         let read = read(&s);
         let cut = read.heard.len();
         let (answer, _, _) = work(&read, cut, 256);
-        let start: Vec<Term> = read.heard.iter().map(|&i| read.terms[i].clone()).collect();
+        let start: Vec<Term> = start(&read, cut).iter().map(|&i| read.terms[i].clone()).collect();
         if start.iter().any(|x| size(x) > 7) {
             continue;
         }
@@ -144,7 +144,7 @@ fn off_sheet(r: &mut Random) -> (u64, u64) {
     (tried, failed)
 }
 
-// The flight card's cases and the edges of case 9.
+// The flight card's cases, each atom with 1,000 and its old number, the edges of case 9, and cases of document 02.
 fn cases(t: &mut Tally) -> u32 {
     use Entry::*;
     let mut wrong = 0;
@@ -158,7 +158,7 @@ fn cases(t: &mut Tally) -> u32 {
             println!("{what}: {got}, wanted {want}");
         }
     };
-    let a = [Atom(7), Atom(9), Sum(vec![0, 1]), Atom(12), Seal(3, 0)];
+    let a = [Atom(1007), Atom(1009), Sum(vec![0, 1]), Atom(1012), Seal(3, 0)];
     let room = 32 + 40 * 256;
     case("case 1", &a, &[2, 4, 1], 3, 3, 256, room, 1002);
     case("case 2", &a, &[2, 4, 1], 3, 2, 0, 32, 2000);
@@ -167,22 +167,32 @@ fn cases(t: &mut Tally) -> u32 {
     case("case 3, budget 2", &a, &[2, 4, 1], 3, 3, 2, 112, 1002);
     case("case 4", &[Zero], &[], 0, 0, 256, room, 1001);
     case("case 5", &[Zero, Pair(0, 0)], &[], 1, 0, 256, room, 1002);
-    case("case 6", &[Atom(1), Sum(vec![0, 0]), Sum(vec![0, 1])], &[2], 0, 1, 256, room, 1000);
-    case("case 7", &[Atom(1), Seal(0, 0)], &[1], 0, 1, 256, room, 2000);
-    case("case 8", &[Atom(1), Atom(2), Seal(0, 1), Sum(vec![2, 0])], &[3, 1], 0, 2, 256, room, 2000);
-    let atoms: Vec<Entry> = (0..256).map(|i| Atom(i as u16)).collect();
-    let more: Vec<Entry> = (0..257).map(|i| Atom(i as u16)).collect();
+    case("case 6", &[Atom(1001), Sum(vec![0, 0]), Sum(vec![0, 1])], &[2], 0, 1, 256, room, 1000);
+    case("case 7", &[Atom(1001), Seal(0, 0)], &[1], 0, 1, 256, room, 2000);
+    case("case 8", &[Atom(1001), Atom(1002), Seal(0, 1), Sum(vec![2, 0])], &[3, 1], 0, 2, 256, room, 2000);
+    let atoms: Vec<Entry> = (0..256).map(|i| Atom(1000 + i)).collect();
+    let more: Vec<Entry> = (0..257).map(|i| Atom(1000 + i)).collect();
     case("n 256", &atoms, &[255], 255, 1, 256, room, 1000);
     case("n 257", &more, &[255], 255, 1, 256, room, 2);
-    case("64 items", &[Atom(1), Sum(vec![0; 64])], &[1], 1, 1, 256, room, 1000);
-    case("65 items", &[Atom(1), Sum(vec![0; 65])], &[1], 1, 1, 256, room, 5);
-    case("an item equal to its own entry", &[Atom(1), Sum(vec![1])], &[1], 1, 1, 256, room, 6);
-    case("cut h", &[Atom(1)], &[0], 0, 1, 0, 32, 1000);
-    case("cut h + 1", &[Atom(1)], &[0], 0, 2, 0, 32, 8);
-    case("budget 256", &[Atom(1)], &[0], 0, 1, 256, room, 1000);
-    case("budget 257", &[Atom(1)], &[0], 0, 1, 257, 65536, 9);
-    case("32 bytes at budget 0", &[Atom(1)], &[0], 0, 1, 0, 32, 1000);
-    case("31 bytes at budget 0", &[Atom(1)], &[0], 0, 1, 0, 31, 10);
+    case("64 items", &[Atom(1001), Sum(vec![0; 64])], &[1], 1, 1, 256, room, 1000);
+    case("65 items", &[Atom(1001), Sum(vec![0; 65])], &[1], 1, 1, 256, room, 5);
+    case("an item equal to its own entry", &[Atom(1001), Sum(vec![1])], &[1], 1, 1, 256, room, 6);
+    case("cut h", &[Atom(1001)], &[0], 0, 1, 0, 32, 1000);
+    case("cut h + 1", &[Atom(1001)], &[0], 0, 2, 0, 32, 8);
+    case("budget 256", &[Atom(1001)], &[0], 0, 1, 256, room, 1000);
+    case("budget 257", &[Atom(1001)], &[0], 0, 1, 257, 65536, 9);
+    case("32 bytes at budget 0", &[Atom(1001)], &[0], 0, 1, 0, 32, 1000);
+    case("31 bytes at budget 0", &[Atom(1001)], &[0], 0, 1, 0, 31, 10);
+    // E2
+    case("the first name", &[Atom(0)], &[], 0, 0, 0, 32, 1000);
+    case("the last name", &[Atom(255)], &[], 0, 0, 0, 32, 1000);
+    case("no name", &[Atom(256)], &[], 0, 0, 0, 32, 2000);
+    case("zero is no name", &[Zero, Atom(0)], &[], 0, 0, 256, room, 1001);
+    case("a name twice", &[Atom(9), Atom(9)], &[], 1, 0, 0, 32, 1000);
+    let masked = [Atom(1000), Atom(7), Sum(vec![0, 1]), Atom(1001), Sum(vec![1, 3])];
+    case("masked with a name, nothing heard", &masked, &[0, 2, 4], 3, 0, 256, room, 2000);
+    case("masked with a name", &masked, &[0, 2, 4], 3, 3, 256, room, 1001);
+    case("masked with a name, heard in another order", &masked, &[4, 2, 0], 3, 1, 256, room, 1001);
     wrong
 }
 
@@ -206,30 +216,37 @@ fn large(t: &mut Tally) -> u32 {
     want("a ladder of 256 rungs", &s, 0, 256, 1256);
     want("one rung short", &s, 0, 255, 3255);
     // 256 atoms heard, in a row: 256 basis rows, and nothing follows
-    let atoms: Vec<Entry> = (0..256).map(|i| Atom(i as u16)).collect();
+    let atoms: Vec<Entry> = (0..256).map(|i| Atom(1000 + i)).collect();
     let heard: Vec<u16> = (0..256).collect();
     want("256 basis rows", &sheet(&atoms, &heard, 255), 256, 256, 1000);
     want("255 basis rows", &sheet(&atoms, &heard, 255), 255, 256, 2000);
+    // 256 names: as many basis rows, and nothing heard; heard again, nothing is added
+    let names: Vec<Entry> = (0..256).map(Atom).collect();
+    want("256 names", &sheet(&names, &heard, 255), 0, 0, 1000);
+    want("256 names heard", &sheet(&names, &heard, 255), 256, 0, 1000);
     // the longest good sheet
-    let mut longest = vec![Atom(1)];
+    let mut longest = vec![Atom(1001)];
     longest.extend((1..256u16).map(|i| Sum(vec![i - 1; 64])));
     let s = sheet(&longest, &[255; 256], 0);
     assert_eq!(s.len(), 34444);
     want("the longest good sheet", &s, 256, 256, 2000);
     // sums of neighbours unwind to the last atom; the first sum is an atom itself
-    let mut sums: Vec<Entry> = (0..128).map(|i| Atom(i as u16)).collect();
+    let mut sums: Vec<Entry> = (0..128).map(|i| Atom(1000 + i)).collect();
     sums.extend((0..128u16).map(|i| Sum((0..=i.min(63)).map(|k| i - k).collect())));
     let heard: Vec<u16> = (128..256).collect();
     want("128 dense sums", &sheet(&sums, &heard, 127), 128, 256, 1127);
     wrong
 }
 
-// Each entry number in its own byte and bit, on sheets of 256 entries. Of 256 atoms one is heard; and a sum of two atoms and the second of
-// them are heard, by which a sum and a join gain the first and the pair of both.
+// Each entry number in its own byte and bit, on sheets of 256 entries. Of 256 atoms one is heard, or is on the hull label, each with each of the 256
+// numbers of names once; and a sum of two atoms and the second of them are heard, by which a sum and a join gain the first and the pair of both.
 fn every_entry(t: &mut Tally) {
     let atoms: Vec<Entry> = (0..256).map(|i| Entry::Atom(1000 + i)).collect();
     for e in 0..256 {
         t.call(&sheet(&atoms, &[e], e), 1, 0, 32);
+        let mut named = atoms.clone();
+        named[usize::from(e)] = Entry::Atom(255 - e);
+        t.call(&sheet(&named, &[], e), 0, 0, 32);
     }
     for e in 0..254 {
         let f = (e + 61) % 254;

@@ -1,8 +1,14 @@
 // Kinds of sheets for the benchmarks: each takes a number of entries and gives entries, heard messages and goal. The cut is the number of messages.
+// Atoms have numbers from 1,000 on, but for those of `names`.
 
 use super::sheets::{Entry, Random};
 
 pub type Parts = (Vec<Entry>, Vec<u16>, u16);
+
+// The atom with this number and 1,000.
+fn atom(i: u16) -> Entry {
+    Entry::Atom(1000 + i)
+}
 
 // A chain of pairs over zero: one new term a step, n steps.
 pub fn joins(n: usize) -> Parts {
@@ -19,14 +25,14 @@ pub fn chain(n: usize) -> Parts {
 // Half atoms, half sums of up to 64 of them, all sums heard: a full basis, and each atom a sum step.
 pub fn sums(n: usize) -> Parts {
     let half = n as u16 / 2;
-    let mut entries: Vec<Entry> = (0..half).map(|i| Entry::Atom(i)).collect();
+    let mut entries: Vec<Entry> = (0..half).map(atom).collect();
     entries.extend((0..half).map(|i| Entry::Sum((0..=i.min(63)).map(|k| i - k).collect())));
     (entries, (half..2 * half).collect(), half - 1)
 }
 
 // An atom sealed again and again under one key; the outermost seal and the key heard: n steps inwards.
 pub fn seals(n: usize) -> Parts {
-    let entries = (0..n as u16).map(|i| if i < 2 { Entry::Atom(i) } else { Entry::Seal(if i == 2 { 0 } else { i - 1 }, 1) }).collect();
+    let entries = (0..n as u16).map(|i| if i < 2 { atom(i) } else { Entry::Seal(if i == 2 { 0 } else { i - 1 }, 1) }).collect();
     (entries, vec![n as u16 - 1, 1], 0)
 }
 
@@ -37,7 +43,7 @@ pub fn mixed(n: usize) -> Parts {
     let mut part = |i: u64| 1 + r.below(i - 1) as u16;
     let entries = (0..n as u64)
         .map(|i| match (i, i % 4) {
-            (0..=7, _) => Entry::Atom(i as u16),
+            (0..=7, _) => atom(i as u16),
             (_, 0) => Entry::Pair(part(i), part(i)),
             (_, 1) => Entry::Seal(part(i), part(i)),
             _ => Entry::Sum((0..64).map(|_| part(i)).collect()),
@@ -49,8 +55,17 @@ pub fn mixed(n: usize) -> Parts {
 
 // Out of reach: every entry known but the goal, so that the run ends by finding nothing.
 pub fn stuck(n: usize) -> Parts {
-    let entries = (0..n as u16).map(|i| Entry::Atom(i)).collect();
+    let entries = (0..n as u16).map(atom).collect();
     (entries, (1..n as u16).collect(), 0)
+}
+
+// Half of the entries on the hull label, then sums of one of them with a secret, all heard: each secret is a sum step that draws on the label.
+pub fn names(n: usize) -> Parts {
+    let (half, quarter) = (n as u16 / 2, n as u16 / 4);
+    let mut entries: Vec<Entry> = (0..half).map(Entry::Atom).collect();
+    entries.extend((0..quarter).map(atom));
+    entries.extend((0..quarter).map(|i| Entry::Sum(vec![i, half + i])));
+    (entries, (half + quarter..half + 2 * quarter).collect(), half + quarter - 1)
 }
 
 // Entries of every kind drawn at random, half as many messages as entries, and a goal that is none of them.
@@ -65,8 +80,8 @@ pub fn drawn(n: usize, seed: u64) -> Parts {
         .map(|i| {
             let (kind, a, b) = (r.below(8), r.below(i.max(1)) as u16, r.below(i.max(1)) as u16);
             match kind {
-                _ if i < 4 => Entry::Atom(i as u16),
-                0 => Entry::Atom(i as u16),
+                _ if i < 4 => atom(i as u16),
+                0 => atom(i as u16),
                 1..=2 => Entry::Pair(a, b),
                 3..=4 => Entry::Seal(a, b),
                 _ => Entry::Sum((0..2 + r.below(4)).map(|_| r.below(i) as u16).collect()),
@@ -84,7 +99,7 @@ pub fn longest(n: usize) -> Parts {
     let entries = (0..n as u16)
         .map(|i| match i {
             0 => Entry::Zero,
-            _ if i as usize == n - 1 => Entry::Atom(0),
+            _ if i as usize == n - 1 => atom(0),
             _ => Entry::Pair(i - 1, i - 1),
         })
         .collect();

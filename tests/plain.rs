@@ -1,5 +1,5 @@
 // The verdict in plain Rust, by the library's algorithm: tables of keys, sets and representatives, a basis with kept remainders, and a least
-// number over all steps that follow. For the benchmark; the tests compare it with the library too. A message is heard in one of two forms:
+// number over all steps that follow. For the benchmark; the tests compare it with the library too. A term is heard in one of two forms:
 // the state is lent, or it is taken by value and handed back, as the library does.
 
 #![allow(dead_code)] // the tests use one form, the benchmark both
@@ -219,8 +219,10 @@ fn judge<const BY_VALUE: bool>(sheet: &[u8], cut: u32, budget: u32, out: &mut [u
     }
     let t = tables(sheet);
     let (mut s, mut remainders) = (State::new(), t.sets);
-    for k in 0..cut as usize {
-        let (before, e) = (s.len, t.reps[at(10 + 4 * t.n + 2 * k)]);
+    let public = (0..t.n).filter(|&i| t.reps[i] as usize == i && t.keys[i] >> 8 == 1 << 24);
+    let heard = (0..cut as usize).map(|k| at(10 + 4 * t.n + 2 * k));
+    for i in public.chain(heard) {
+        let (before, e) = (s.len, t.reps[i]);
         if has(&s.known, e) {
             continue;
         }
@@ -236,12 +238,12 @@ fn judge<const BY_VALUE: bool>(sheet: &[u8], cut: u32, budget: u32, out: &mut [u
     answer
 }
 
-// The state is lent to each message heard.
+// The state is lent to each term heard.
 pub fn verdict(sheet: &[u8], cut: u32, budget: u32, out: &mut [u8]) -> u32 {
     judge::<false>(sheet, cut, budget, out)
 }
 
-// The state is taken by each message heard, and handed back.
+// The state is taken by each term heard, and handed back.
 pub fn verdict_by_value(sheet: &[u8], cut: u32, budget: u32, out: &mut [u8]) -> u32 {
     judge::<true>(sheet, cut, budget, out)
 }

@@ -79,25 +79,31 @@ fn main() {
             println!("{what}: printed\n{got}wanted\n{want}and said {said:?}");
         }
     };
-    let a = sheet(&[Atom(7), Atom(9), Sum(vec![0, 1]), Atom(12), Seal(3, 0)], &[2, 4, 1], 3);
+    let a = sheet(&[Atom(1007), Atom(1009), Sum(vec![0, 1]), Atom(1012), Seal(3, 0)], &[2, 4, 1], 3);
     check(
         "sheet A",
         &a,
         "goal 3 heard 3\ncut 0 out of reach known 0\ncut 1 out of reach known 1\ncut 2 out of reach known 2\ncut 3 reached rungs 2\nrung 0 sum 1 2\nrung 3 open 4 0\n",
     );
     check("a sum of nothing", &sheet(&[Zero], &[], 0), "goal 0 heard 0\ncut 0 reached rungs 1\nrung 0 sum\n");
-    check("never reached", &sheet(&[Atom(1), Seal(0, 0)], &[1], 0), "goal 0 heard 1\ncut 0 out of reach known 0\ncut 1 out of reach known 1\n");
-    check("the goal's own entry is printed", &sheet(&[Atom(1), Sum(vec![0])], &[0], 1), "goal 1 heard 1\ncut 0 out of reach known 0\ncut 1 reached rungs 0\n");
+    check("never reached", &sheet(&[Atom(1001), Seal(0, 0)], &[1], 0), "goal 0 heard 1\ncut 0 out of reach known 0\ncut 1 out of reach known 1\n");
+    check("the goal's own entry is printed", &sheet(&[Atom(1001), Sum(vec![0])], &[0], 1), "goal 1 heard 1\ncut 0 out of reach known 0\ncut 1 reached rungs 0\n");
     check(
         "each rule",
         // k, m, p = (m, k), q = (p, p), s = seal of q under k, goal = (s, sum of m and k), heard: the seal and the key, then the parts come out
-        &sheet(&[Atom(1), Atom(2), Pair(1, 0), Pair(2, 2), Seal(3, 0), Sum(vec![0, 1]), Pair(4, 5), Seal(6, 1)], &[4, 0], 7),
+        &sheet(&[Atom(1001), Atom(1002), Pair(1, 0), Pair(2, 2), Seal(3, 0), Sum(vec![0, 1]), Pair(4, 5), Seal(6, 1)], &[4, 0], 7),
         "goal 7 heard 2\ncut 0 out of reach known 0\ncut 1 out of reach known 1\ncut 2 reached rungs 6\nrung 3 open 4 0\nrung 2 left 3\nrung 1 left 2\nrung 5 sum 0 1\nrung 6 join 4 5\nrung 7 seal 6 1\n",
     );
     check(
         "the right of a pair",
-        &sheet(&[Atom(1), Atom(2), Pair(0, 1)], &[2], 1),
+        &sheet(&[Atom(1001), Atom(1002), Pair(0, 1)], &[2], 1),
         "goal 1 heard 1\ncut 0 out of reach known 0\ncut 1 reached rungs 2\nrung 0 left 2\nrung 1 right 2\n",
+    );
+    check("a name on the hull label", &sheet(&[Atom(1000), Atom(255)], &[0], 1), "goal 1 heard 1\ncut 0 reached rungs 0\n");
+    check(
+        "a sum that draws on the hull label",
+        &sheet(&[Atom(1000), Atom(0), Atom(0), Sum(vec![0, 2])], &[3], 0),
+        "goal 0 heard 1\ncut 0 out of reach known 1\ncut 1 reached rungs 1\nrung 0 sum 1 3\n",
     );
     check("no input", &[], "refused 1\n");
     check("another file", b"hello, world\n", "refused 1\n");

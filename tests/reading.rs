@@ -1,5 +1,5 @@
-// Document 01 read a second time, word by word: terms as nested sets, sums over all subsets, the whole answer and buffer of a call. It shares no
-// code with the library.
+// Documents 01 and 02 read a second time, word by word: terms as nested sets, sums over all subsets, the whole answer and buffer of a call. It
+// shares no code with the library.
 
 use super::sheets::refusal;
 use std::collections::BTreeSet;
@@ -45,6 +45,8 @@ pub fn size(t: &Term) -> usize {
 
 pub struct Sheet {
     pub terms: Vec<Term>,
+    // the atoms 0 to 255 on the sheet, in rising entry order
+    pub label: Vec<usize>,
     pub heard: Vec<usize>,
     pub goal: usize,
 }
@@ -65,7 +67,8 @@ pub fn read(s: &[u8]) -> Sheet {
         };
         terms.push(new);
     }
-    Sheet { terms, heard: (0..h).map(|k| number(10 + 4 * n + 2 * k)).collect(), goal }
+    let label = (0..n).filter(|i| matches!(s[number(10 + 4 * i)..], [1, high, low, ..] if high as usize * 256 + low as usize <= 255)).collect();
+    Sheet { terms, label, heard: (0..h).map(|k| number(10 + 4 * n + 2 * k)).collect(), goal }
 }
 
 // ---- document 01, "Rungs", word by word
@@ -164,11 +167,16 @@ pub enum Answer {
     Stopped,
 }
 
+// What is gained at the start (document 02, E2): "Every such atom on the sheet .. in rising entry order, ahead of the heard messages and also at cut 0".
+pub fn start(sheet: &Sheet, cut: usize) -> Vec<usize> {
+    sheet.label.iter().chain(&sheet.heard[..cut]).copied().collect()
+}
+
 pub fn work(sheet: &Sheet, cut: usize, budget: usize) -> (Answer, Vec<Rung>, Work) {
     let heads = (0..sheet.terms.len()).map(|i| (0..=i).find(|&j| sheet.terms[j] == sheet.terms[i]).unwrap()).collect();
     let mut w = Work { heads, gained: vec![], drawn: vec![] };
-    for k in 0..cut {
-        let head = w.heads[sheet.heard[k]];
+    for i in start(sheet, cut) {
+        let head = w.heads[i];
         w.gain(sheet, head);
     }
     let goal = w.heads[sheet.goal];
@@ -197,7 +205,7 @@ pub fn set_bytes(set: impl IntoIterator<Item = usize>) -> [u8; 32] {
     b
 }
 
-// The number and the buffer that document 01 asks for.
+// The number and the buffer that the documents ask for.
 pub fn expected(s: &[u8], cut: u32, budget: u32, buffer: &[u8]) -> (u32, Vec<u8>) {
     let same = buffer.to_vec();
     let refused = refusal(s);

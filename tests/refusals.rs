@@ -38,8 +38,8 @@ fn with_number(mut s: Vec<u8>, at: usize, n: u16) -> Vec<u8> {
 
 fn edges(c: &mut Count) {
     use Entry::*;
-    let atoms = |n: usize| (0..n).map(|a| Atom(a as u16)).collect::<Vec<_>>();
-    let a = sheet(&[Atom(7), Atom(9), Sum(vec![0, 1]), Atom(12), Seal(3, 0)], &[2, 4, 1], 3);
+    let atoms = |n: usize| (0..n).map(|a| Atom(1000 + a as u16)).collect::<Vec<_>>();
+    let a = sheet(&[Atom(1007), Atom(1009), Sum(vec![0, 1]), Atom(1012), Seal(3, 0)], &[2, 4, 1], 3);
     assert_eq!(a.len(), 55);
     c.check("sheet A", &a, 0);
 
@@ -58,7 +58,7 @@ fn edges(c: &mut Count) {
         entries.extend((1..256).map(|i| Sum(vec![i - 1; 64])));
         sheet(&entries, &[255; 256], 255)
     };
-    let longest = full(Atom(1));
+    let longest = full(Atom(1001));
     assert_eq!(longest.len(), 34444);
     c.check("34,444 bytes", &longest, 0);
     c.check("34,445 bytes", &[longest, vec![0]].concat(), 1);

@@ -64,18 +64,27 @@ impl Random {
     }
 }
 
+// A few atom numbers: two of atoms on the hull label, 0 and 255, and four of others, two of which have a byte of the first two.
+pub const ATOMS: [u16; 6] = [0, 255, 256, 65280, 1000, 1001];
+
 // A good sheet's entries and trace: at most `most` entries over a few atoms, so that equal terms and cancelling sums are common.
 pub fn random_entries(r: &mut Random, most: u64) -> (Vec<Entry>, Vec<u16>, u16) {
+    entries_over(r, most, &ATOMS)
+}
+
+// The same over these atoms.
+pub fn entries_over(r: &mut Random, most: u64, atoms: &[u16]) -> (Vec<Entry>, Vec<u16>, u16) {
     let n = 1 + r.below(most);
     let entries = (0..n)
         .map(|i| {
+            let atom = atoms[r.below(atoms.len() as u64) as usize];
             if i == 0 {
-                return if r.below(4) == 0 { Entry::Zero } else { Entry::Atom(r.below(3) as u16) };
+                return if r.below(4) == 0 { Entry::Zero } else { Entry::Atom(atom) };
             }
             let (a, b) = (r.below(i) as u16, r.below(i) as u16);
             match r.below(10) {
                 0 => Entry::Zero,
-                1..=2 => Entry::Atom(r.below(4) as u16),
+                1..=2 => Entry::Atom(atom),
                 3..=4 => Entry::Pair(a, b),
                 5..=6 => Entry::Seal(a, b),
                 _ => Entry::Sum((0..r.below(5)).map(|_| r.below(i) as u16).collect()),

@@ -287,7 +287,7 @@ fn main() {
     let mut arguments = std::env::args().skip(1);
     let program = arguments.next().expect("the program's path");
     let faults_path = arguments.next().expect("the path of the library with faults");
-    let a = sheet(&[Atom(7), Atom(9), Sum(vec![0, 1]), Atom(12), Seal(3, 0)], &[2, 4, 1], 3);
+    let a = sheet(&[Atom(1007), Atom(1009), Sum(vec![0, 1]), Atom(1012), Seal(3, 0)], &[2, 4, 1], 3);
     let faults_path = std::fs::canonicalize(faults_path).expect("the library with faults").to_string_lossy().into_owned();
     let mut t = Test { program, faults: faults_path, sheet: a, passed: 0, failed: 0 };
     input(&mut t);

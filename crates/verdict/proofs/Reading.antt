@@ -1,24 +1,27 @@
 -- What a caller may conclude from the number that comes back, for every good sheet. Each statement is drawn from a field of `Meets` alone.
--- Shown: `passes-derivable`; `reached-derivable`; `out-underivable`; `out-exact`, `reached-exact`, with a budget of at least the number of entries;
+-- Shown: `passes-derivable`; `reached-derivable`; `out-underivable`; `public-reached`, a public atom as goal; `out-exact`, `reached-exact`, with a budget of at least the number of entries;
 -- `stopped-used-up`, `steps-few`, `steps-fields`. Assumes nothing.
 use mathlib.Core.Path.{_≡_, refl, sym, ap, _∙_}
 use mathlib.Core.Logic.{_↔_}
 use mathlib.Core.List.{List, List·Memᴰ}
 use Prim.Native.Nat.{ℕ, _+_, _≤_, _<_}
 use native.Mathlib.Omega.{arith}
+use lib.ListN.{length}
 use Rattle.deduction.specs.Derivation.{Derivable}
-use Rattle.deduction.specs.Entry.{termAt}
+use Rattle.deduction.specs.Entry.{Atom, termAt}
 use Rattle.deduction.specs.Step.{Step, Follows}
-use Rattle.deduction.specs.Course.{Verdict, derivable, underivable, exhausted}
+use Rattle.deduction.specs.Course.{Verdict, derivable, underivable, exhausted, Course}
 use Rattle.deduction.proofs.Steps.{replay-derivable}
-use Rattle.deduction.proofs.Steps.Course.{course-stopped}
+use Rattle.deduction.proofs.Steps.Course.{course-stopped, course-unique, head-gained}
 use Rattle.deduction.proofs.Steps.Fields.{Fields, replays-fields}
-use Rattle.dag.specs.Sheet.{countOf}
+use Rattle.dag.specs.Sheet.{countOf, goalOf, traceLength}
 use Rattle.dag.specs.Record.{entryAt}
 use Rattle.dag.specs.Refusal.{refusal}
 use Rattle.dag.proofs.Laws.Good.{good}
-use Rattle.verdict.specs.Start.{startTerms}
+use Rattle.start.specs.Start.{startHeads, startTerms}
+use Rattle.start.proofs.Public.{public-start}
 use Rattle.verdict.specs.Demands.{verdictCode, goalTerm, stepsIn, gainedHeads, Passes, Meets}
+use Rattle.verdict.proofs.Laws.Demands.{start-is-heads}
 use Rattle.verdict.proofs.Unique.{steps-count}
 
 -- what passes the replay is derivable
@@ -68,6 +71,15 @@ module _ {s : List ℕ} {cut budget : ℕ} {old out : List ℕ} {answer : ℕ} (
   stopped-used-up l =
       let (q, u, f) = course-stopped (m .course) (is-stopped l) in
       (named exhausted (is-stopped l) ∙ ap (λ (k : ℕ). 3000 + k) (sym (steps-count out (m .count)) ∙ q), f)
+
+  -- document 02, E2: "A stranger knows them without listening". A public atom as goal is reached at every cut, with every budget, without a rung
+  pub public-reached : (a : ℕ) → entryAt s (goalOf s) ≡ Atom a → a < 256 → cut ≤ traceLength s → answer ≡ 1000
+  public-reached a p l within =
+      let g = good s ok in
+      let heads = start-is-heads s cut budget ok within in
+      let gained = head-gained (entryAt s) (countOf s) (g .downward) (goalOf s) (g .goal) (startHeads s cut) heads (public-start s ok cut (goalOf s) a (g .goal) p l) in
+      let (steps, v) = course-unique (entryAt s) (countOf s) (g .downward) (goalOf s) heads (m .course) (Course.reached gained) in
+      named derivable v ∙ ap (λ (k : ℕ). 1000 + k) (sym (steps-count out (m .count)) ∙ ap length steps)
 
   -- "the rung count returned is at most the number of entries"
   pub steps-few : answer < 2000 → answer ≤ 1000 + countOf s

@@ -1,5 +1,5 @@
 -- Wrong answers and wrong ladders on small sheets, proved not to meet the demands or not to pass, whatever the buffers hold. Each would pass a weaker definition.
--- Shown: on sheet A a rung too many, a rung missing, out of reach for a derivable goal, reached beyond the budget, a copied rung, a head too many or
+-- Shown: a public atom out of reach, atom 256 reached, a public atom gained by its own number or after the heard messages; on sheet A a rung too many, a rung missing, out of reach for a derivable goal, reached beyond the budget, a copied rung, a head too many or
 -- too few in the gained set; a wrong source and a missed goal in the replay; out of reach before the last rung. By computation. Assumes nothing.
 use mathlib.Core.Path.{_≡_, refl, sym, ap, ap₂, _∙_, subst}
 use mathlib.Core.Bool.{true, false, true≢false}
@@ -23,14 +23,14 @@ use Rattle.deduction.proofs.Standard.{rep-equal}
 use Rattle.deduction.proofs.Distinct.{enc-parts}
 use Rattle.deduction.proofs.Steps.Replay.{endState, end-exact, replays-end}
 use Rattle.deduction.proofs.Steps.Fields.{right-decrypt}
-use Rattle.dag.specs.Sheet.{numberAt, traceLength, traceOf, beginAt, listed}
+use Rattle.dag.specs.Sheet.{numberAt, traceLength, beginAt, listed}
 use Rattle.dag.specs.Record.{entryAt, fits, decodeAs}
 use Rattle.dag.specs.Refusal.{when, orElse, first, equal, anyFrom, noSheet, badCount, shortList, badPair, badPairs, badRecord, badRecords, notListed, refusal}
 use Rattle.dag.proofs.Laws.Good.{good}
-use Rattle.verdict.specs.Start.{startHeads, startTerms}
+use Rattle.start.specs.Start.{isPublic, publicHeads, startEntries, startHeads, startTerms}
 use Rattle.verdict.specs.Demands.{verdictCode, stepsIn, Passes, Meets}
 use Rattle.verdict.specs.Answer.{outcomeOf}
-use Rattle.verdict.specs.Card.{head, sheetA, sumStep, openStep}
+use Rattle.verdict.specs.Card.{head, sheetA, sheet255, sheet256, sheetTwice, sheetMasked, sumStep, openStep, unmaskStep}
 use Rattle.verdict.proofs.Unique.{as-run, answer-run, known-run}
 
 -- An atom and zero, nothing heard, the atom as goal: it is out of reach after one rung, the sum of nothing
@@ -44,8 +44,14 @@ Runs s cut budget es ss v =
 
 runs : Runs sheetA 3 256 (2 ∷ 4 ∷ 1 ∷ []) (sumStep ∷ openStep ∷ []) derivable × Runs sheetA 3 0 (2 ∷ 4 ∷ 1 ∷ []) [] exhausted
     × Runs sheetA 2 256 (2 ∷ 4 ∷ []) [] underivable × Runs sheetZ 0 256 [] (step 1 6 unused unused 0 ∷ []) underivable
-unfolding outcomeOf refusal noSheet badCount shortList badPair badPairs badRecord badRecords notListed when orElse first equal anyFrom fits decodeAs numberAt beginAt listed parts shape alike least xorAll firstAlike standardSet buildSet sets setAt repAt take-off reduceFrom reduce addRow learnAs learnAll nothing knowledge offer opened built offers allOffers leastOf isSumOf nextNumber secondPart expand stepAt after reached nextStep goesOn ended run member insert highest leading
+    × Runs sheet255 0 0 (0 ∷ []) [] derivable × Runs sheet256 0 0 [] [] underivable × Runs sheetTwice 0 0 (0 ∷ []) [] derivable
+    × Runs sheetMasked 3 256 (1 ∷ 0 ∷ 2 ∷ 4 ∷ []) (unmaskStep ∷ []) derivable
+unfolding outcomeOf refusal noSheet badCount shortList badPair badPairs badRecord badRecords notListed when orElse first equal anyFrom fits decodeAs numberAt beginAt listed parts shape alike least xorAll firstAlike standardSet buildSet sets setAt repAt isPublic publicHeads take-off reduceFrom reduce addRow learnAs learnAll nothing knowledge offer opened built offers allOffers leastOf isSumOf nextNumber secondPart expand stepAt after reached nextStep goesOn ended run member insert highest leading
 runs = (
+  (refl, omega arith, refl, refl, refl),
+  (refl, omega arith, refl, refl, refl),
+  (refl, omega arith, refl, refl, refl),
+  (refl, omega arith, refl, refl, refl),
   (refl, omega arith, refl, refl, refl),
   (refl, omega arith, refl, refl, refl),
   (refl, omega arith, refl, refl, refl),
@@ -98,9 +104,24 @@ module _ (old out : List ℕ) where
   pub out-too-early : ¬ Meets sheetZ 0 256 old out 2000
   out-too-early m = omega (arith, only-answer (runs .3) m)
 
--- the replay on sheet A: its heard entries, its seal, and every entry its own head
-replay-A : (traceOf sheetA 3 ≡ 2 ∷ 4 ∷ 1 ∷ []) × (termAt (entryAt sheetA) 4 ≡ enc (termAt (entryAt sheetA) 3) (termAt (entryAt sheetA) 0))
-unfolding fits decodeAs numberAt listed termAt terms build
+  -- a public atom as goal is never out of reach, and atom 256 isn't public
+  pub public-out : (k : ℕ) → ¬ Meets sheet255 0 0 old out (2000 + k)
+  public-out k m = omega (arith, only-answer (runs .4) m)
+
+  pub other-reached : (k : ℕ) → k < 1000 → ¬ Meets sheet256 0 0 old out (1000 + k)
+  other-reached k l m = omega (arith, only-answer (runs .5) m)
+
+  -- atom 0 twice: its head is gained, and the second entry isn't in the gained set
+  pub own-number : {answer : ℕ} → Meets sheetTwice 0 0 old out answer → ¬ (member (setOf (take 32 out)) 1 ≡ true)
+  own-number m p = elim (List·Memᴰ·cases-cons (only-known (runs .6) m 1 .0 p)) [ inl q ↦ omega arith | inr q ↦ List·Memᴰ·not-nil q ]
+
+  -- the heard messages gained ahead of the public atom: the sum would draw on entries 0, 2 and 4
+  pub drawn-late : {answer : ℕ} (m : Meets sheetMasked 3 256 old out answer) → ¬ (stepsIn out (m .count) ≡ step 3 6 unused unused 21 ∷ [])
+  drawn-late m p = omega (arith, ap (λ (l : List Step). getD l 0 sumStep .set) (sym (only-steps (runs .7) m) ∙ p))
+
+-- the replay on sheet A: the entries gained at the start, its seal, and every entry its own head
+replay-A : (startEntries sheetA 3 ≡ 2 ∷ 4 ∷ 1 ∷ []) × (termAt (entryAt sheetA) 4 ≡ enc (termAt (entryAt sheetA) 3) (termAt (entryAt sheetA) 0))
+unfolding fits decodeAs numberAt listed isPublic publicHeads termAt terms build
 replay-A = (refl, refl)
 
 own-head : (i : ℕ) → i < 5 → repAt (entryAt sheetA) i ≡ i

@@ -23,7 +23,7 @@ use Rattle.dag.specs.Record.{entryAt}
 use Rattle.dag.specs.Refusal.{refusal}
 use Rattle.dag.proofs.Laws.Good.{good}
 use Rattle.derive.specs.Bytes.{stepsBytes}
-use Rattle.verdict.specs.Start.{startHeads}
+use Rattle.start.specs.Start.{startHeads}
 use Rattle.verdict.specs.Refused.{refusalOf}
 use Rattle.verdict.specs.Demands.{verdictCode, stepsIn, Meets, Demanded}
 use Rattle.verdict.specs.Answer.{outcomeOf, answerOf, bufferOf}

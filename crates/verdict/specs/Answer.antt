@@ -10,7 +10,7 @@ use Rattle.deduction.specs.Run.{Outcome, knowledge, run}
 use Rattle.dag.specs.Sheet.{countOf, goalOf}
 use Rattle.dag.specs.Record.{entryAt}
 use Rattle.derive.specs.Bytes.{stepsBytes}
-use Rattle.verdict.specs.Start.{startHeads}
+use Rattle.start.specs.Start.{startHeads}
 use Rattle.verdict.specs.Refused.{refusalOf}
 use Rattle.verdict.specs.Demands.{verdictCode}
 

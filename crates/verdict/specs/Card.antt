@@ -1,4 +1,5 @@
--- The starred cases of the flight card: sheet, cut, budget and buffer length; the answer, the number of known entries, and the rungs.
+-- The starred cases of the flight card, and cases of document 02: sheet, cut, budget and buffer length; the answer, the number of known entries, and the
+-- rungs. Document 02, E2: "Sheet A and the other cases that use atoms now take 1,000 plus their old numbers, so their printed results hold."
 -- Defined: `rows`, the table, and `Yields`, what a row claims of the definitions. That every row holds is one theorem (proofs/Card.antt).
 use Prim.Native.Nat.{ℕ}
 use mathlib.Core.Path.{_≡_}
@@ -26,14 +27,15 @@ case s cut budget space answer known steps =
 abbrev pub head : List ℕ → List ℕ
 head l = 0x53 ∷ 0x48 ∷ 0x54 ∷ 0x31 ∷ l
 
--- "Sheet A has atoms 7, 9 as entries 0, 1; entry 2 sum of 0 and 1; entry 3 atom 12; entry 4 seal of 3 under 0; heard 2, 4, 1; goal 3; 55 bytes"
+-- "Sheet A has atoms 7, 9 as entries 0, 1; entry 2 sum of 0 and 1; entry 3 atom 12; entry 4 seal of 3 under 0; heard 2, 4, 1; goal 3; 55 bytes",
+-- the atoms now 1,007, 1,009 and 1,012
 abbrev pub sheetA : List ℕ
 sheetA =
     head
     (0 ∷ 5 ∷ 0 ∷ 3 ∷ 0 ∷ 3
     ∷ 0 ∷ 36 ∷ 0 ∷ 3 ∷ 0 ∷ 39 ∷ 0 ∷ 3 ∷ 0 ∷ 42 ∷ 0 ∷ 5 ∷ 0 ∷ 47 ∷ 0 ∷ 3 ∷ 0 ∷ 50 ∷ 0 ∷ 5
     ∷ 0 ∷ 2 ∷ 0 ∷ 4 ∷ 0 ∷ 1
-    ∷ 1 ∷ 0 ∷ 7 ∷ 1 ∷ 0 ∷ 9 ∷ 4 ∷ 0 ∷ 0 ∷ 0 ∷ 1 ∷ 1 ∷ 0 ∷ 12 ∷ 3 ∷ 0 ∷ 3 ∷ 0 ∷ 0 ∷ [])
+    ∷ 1 ∷ 3 ∷ 239 ∷ 1 ∷ 3 ∷ 241 ∷ 4 ∷ 0 ∷ 0 ∷ 0 ∷ 1 ∷ 1 ∷ 3 ∷ 244 ∷ 3 ∷ 0 ∷ 3 ∷ 0 ∷ 0 ∷ [])
 
 -- "One entry, zero, nothing heard, goal 0"
 abbrev pub sheet4 : List ℕ
@@ -47,18 +49,38 @@ sheet5 = head (0 ∷ 2 ∷ 0 ∷ 0 ∷ 0 ∷ 1 ∷ 0 ∷ 18 ∷ 0 ∷ 1 ∷ 0 �
 abbrev pub sheet6 : List ℕ
 sheet6 =
     head
-    (0 ∷ 3 ∷ 0 ∷ 1 ∷ 0 ∷ 0 ∷ 0 ∷ 24 ∷ 0 ∷ 3 ∷ 0 ∷ 27 ∷ 0 ∷ 5 ∷ 0 ∷ 32 ∷ 0 ∷ 5 ∷ 0 ∷ 2 ∷ 1 ∷ 0 ∷ 1 ∷ 4 ∷ 0 ∷ 0 ∷ 0 ∷ 0 ∷ 4 ∷ 0 ∷ 0 ∷ 0 ∷ 1 ∷ [])
+    (0 ∷ 3 ∷ 0 ∷ 1 ∷ 0 ∷ 0 ∷ 0 ∷ 24 ∷ 0 ∷ 3 ∷ 0 ∷ 27 ∷ 0 ∷ 5 ∷ 0 ∷ 32 ∷ 0 ∷ 5 ∷ 0 ∷ 2 ∷ 1 ∷ 3 ∷ 233 ∷ 4 ∷ 0 ∷ 0 ∷ 0 ∷ 0 ∷ 4 ∷ 0 ∷ 0 ∷ 0 ∷ 1 ∷ [])
 
 -- "Atom; it sealed under itself; the seal heard; goal the atom"
 abbrev pub sheet7 : List ℕ
-sheet7 = head (0 ∷ 2 ∷ 0 ∷ 1 ∷ 0 ∷ 0 ∷ 0 ∷ 20 ∷ 0 ∷ 3 ∷ 0 ∷ 23 ∷ 0 ∷ 5 ∷ 0 ∷ 1 ∷ 1 ∷ 0 ∷ 1 ∷ 3 ∷ 0 ∷ 0 ∷ 0 ∷ 0 ∷ [])
+sheet7 = head (0 ∷ 2 ∷ 0 ∷ 1 ∷ 0 ∷ 0 ∷ 0 ∷ 20 ∷ 0 ∷ 3 ∷ 0 ∷ 23 ∷ 0 ∷ 5 ∷ 0 ∷ 1 ∷ 1 ∷ 3 ∷ 233 ∷ 3 ∷ 0 ∷ 0 ∷ 0 ∷ 0 ∷ [])
 
 -- "Different atoms m, k, then seal of m under k, sum of that seal and m; heard the sum, then k; goal m"
 abbrev pub sheet8 : List ℕ
 sheet8 =
     head
     (0 ∷ 4 ∷ 0 ∷ 2 ∷ 0 ∷ 0 ∷ 0 ∷ 30 ∷ 0 ∷ 3 ∷ 0 ∷ 33 ∷ 0 ∷ 3 ∷ 0 ∷ 36 ∷ 0 ∷ 5 ∷ 0 ∷ 41 ∷ 0 ∷ 5 ∷ 0 ∷ 3 ∷ 0 ∷ 1
-    ∷ 1 ∷ 0 ∷ 1 ∷ 1 ∷ 0 ∷ 2 ∷ 3 ∷ 0 ∷ 0 ∷ 0 ∷ 1 ∷ 4 ∷ 0 ∷ 2 ∷ 0 ∷ 0 ∷ [])
+    ∷ 1 ∷ 3 ∷ 233 ∷ 1 ∷ 3 ∷ 234 ∷ 3 ∷ 0 ∷ 0 ∷ 0 ∷ 1 ∷ 4 ∷ 0 ∷ 2 ∷ 0 ∷ 0 ∷ [])
+
+-- one entry, atom 255, nothing heard; and atom 256 in its place
+abbrev pub sheet255 : List ℕ
+sheet255 = head (0 ∷ 1 ∷ 0 ∷ 0 ∷ 0 ∷ 0 ∷ 0 ∷ 14 ∷ 0 ∷ 3 ∷ 1 ∷ 0 ∷ 255 ∷ [])
+
+abbrev pub sheet256 : List ℕ
+sheet256 = head (0 ∷ 1 ∷ 0 ∷ 0 ∷ 0 ∷ 0 ∷ 0 ∷ 14 ∷ 0 ∷ 3 ∷ 1 ∷ 1 ∷ 0 ∷ [])
+
+-- atom 0 twice, nothing heard, goal the second
+abbrev pub sheetTwice : List ℕ
+sheetTwice = head (0 ∷ 2 ∷ 0 ∷ 0 ∷ 0 ∷ 1 ∷ 0 ∷ 18 ∷ 0 ∷ 3 ∷ 0 ∷ 21 ∷ 0 ∷ 3 ∷ 1 ∷ 0 ∷ 0 ∷ 1 ∷ 0 ∷ 0 ∷ [])
+
+-- atoms 1,000, 7 and 1,001 as entries 0, 1, 3; entry 2 sum of 0 and 1; entry 4 sum of 1 and 3; heard 0, 2, 4; goal 3
+abbrev pub sheetMasked : List ℕ
+sheetMasked =
+    head
+    (0 ∷ 5 ∷ 0 ∷ 3 ∷ 0 ∷ 3
+    ∷ 0 ∷ 36 ∷ 0 ∷ 3 ∷ 0 ∷ 39 ∷ 0 ∷ 3 ∷ 0 ∷ 42 ∷ 0 ∷ 5 ∷ 0 ∷ 47 ∷ 0 ∷ 3 ∷ 0 ∷ 50 ∷ 0 ∷ 5
+    ∷ 0 ∷ 0 ∷ 0 ∷ 2 ∷ 0 ∷ 4
+    ∷ 1 ∷ 3 ∷ 232 ∷ 1 ∷ 0 ∷ 7 ∷ 4 ∷ 0 ∷ 0 ∷ 0 ∷ 1 ∷ 1 ∷ 3 ∷ 233 ∷ 4 ∷ 0 ∷ 1 ∷ 0 ∷ 3 ∷ [])
 
 -- the rungs of sheet A at cut 3: "rung 0 sum 1 2" and "rung 3 open 4 0"
 abbrev pub sumStep : Step
@@ -66,6 +88,10 @@ sumStep = step 0 6 unused unused 6
 
 abbrev pub openStep : Step
 openStep = step 3 3 4 0 0
+
+-- the rung of the masked sheet at cut 3: "rung 3 sum 1 4". Atom 7 is gained first, so that entry 2 is a sum of those before it
+abbrev pub unmaskStep : Step
+unmaskStep = step 3 6 unused unused 18
 
 unfoldable pub rows : List Case
 unfolding case
@@ -86,6 +112,12 @@ rows =
     ∷ case sheet6 1 256 10272 1000 1 []
     ∷ case sheet7 1 256 10272 2000 1 []
     ∷ case sheet8 2 256 10272 2000 2 []
+    -- document 02, E2: 255 is on the hull label and 256 isn't; twice on the sheet and gained once; a sum draws on what the label shows
+    ∷ case sheet255 0 0 32 1000 1 []
+    ∷ case sheet256 0 0 32 2000 0 []
+    ∷ case sheetTwice 0 0 32 1000 1 []
+    ∷ case sheetMasked 0 256 10272 2000 1 []
+    ∷ case sheetMasked 3 256 10272 1001 5 (unmaskStep ∷ [])
     ∷ []
 
 -- the definitions yield the row

@@ -1,4 +1,5 @@
--- The demands on a verdict call, as a statement about whole derivations (document 01, "Rungs", "Ladders and their replay").
+-- The demands on a verdict call, as a statement about whole derivations (document 01, "Rungs", "Ladders and their replay"). Reach, replay and the order
+-- of the rungs start from one list, `startEntries` (`start/specs/Start.antt`): the public atoms on the sheet, then the messages before the cut.
 -- Defined: `stepsIn`, the rungs read back from the returned bytes; `Passes`, the replay of them; `Meets`, demands 2 and 3 of an answer and its buffer, the stop
 -- rule and every byte; `Demanded`, the whole promise, for refused calls too. Nothing here names the search, the run or the elimination, and the promise
 -- alone determines the answer and every byte (`demands-equations`, proofs/Unique.antt).
@@ -18,7 +19,7 @@ use Rattle.deduction.specs.Course.{Verdict, derivable, underivable, exhausted, 
 use Rattle.deduction.specs.Replay.{Replays}
 use Rattle.dag.specs.Sheet.{numberAt, countOf, goalOf}
 use Rattle.dag.specs.Record.{entryAt}
-use Rattle.verdict.specs.Start.{startHeads, startTerms}
+use Rattle.start.specs.Start.{startHeads, startTerms}
 use Rattle.verdict.specs.Refused.{refusalOf}
 
 -- "1,000 for reached, 2,000 for out of reach, 3,000 for stopped"
@@ -39,12 +40,12 @@ unfoldable pub stepsIn : List ℕ → ℕ → List Step
 stepsIn out zero = []
 stepsIn out (suc k) = stepsIn out k ++ (readStep (drop (32 + 40 * k) out) ∷ [])
 
--- the heads gained by hearing and by the first k rungs of a buffer, in order
+-- the heads gained at the start and by the first k rungs of a buffer, in order
 abbrev pub gainedHeads : List ℕ → ℕ → ℕ → List ℕ → List ℕ
 gainedHeads s cut k out = startHeads s cut ++ map (λ (r : Step). r .head) (stepsIn out k)
 
--- "The replay is fed the sheet, the cut and the call's answers: the rung count and that many rungs of 40 bytes." No rung is wrong, and "the goal
--- is gained when its term is in the state at the end"
+-- "The replay is fed the sheet, the cut and the call's answers: the rung count and that many rungs of 40 bytes." It starts from the public atoms "and the
+-- heard messages together" (document 02, E2). No rung is wrong, and "the goal is gained when its term is in the state at the end"
 abbrev pub Passes : List ℕ → ℕ → ℕ → List ℕ → Type 0
 Passes s cut k out =
     (end : List Term) × Replays (termAt (entryAt s)) (countOf s) (startTerms s cut) (stepsIn out k) end × Holds end (goalTerm s)
@@ -62,7 +63,8 @@ pub record Meets (s : List ℕ) (cut budget : ℕ) (old out : List ℕ) (answer 
   -- "Later bytes keep their values"
   pub kept : drop (32 + 40 * count) out ≡ drop (32 + 40 * count) old
   -- demand 3, with a budget of at least the number of entries: "out of reach exactly when no finite ladder from the messages before the cut
-  -- gains the goal, through terms of any size, on the sheet or not"
+  -- gains the goal, through terms of any size, on the sheet or not"; and document 02, E2: "Reach is measured .. from these atoms and the heard
+  -- messages together", which are the terms of the start
   pub exact : countOf s ≤ budget → (verdict ≡ underivable) ↔ (¬ Derivable (startTerms s cut) (goalTerm s))
   -- "Otherwise it answers reached"
   pub otherwise : countOf s ≤ budget → ¬ (verdict ≡ underivable) → verdict ≡ derivable

@@ -1,6 +1,5 @@
--- Reading order: the start; which calls are refused; the demands, as one statement about whole derivations; the same as equations; the numbers of answers;
--- the starred cases. Inner: what hearing needs, and what is decided.
-pub mod Start
+-- Reading order: which calls are refused; the demands, as one statement about whole derivations; the same as equations; the numbers of answers;
+-- the starred cases. Inner: what is decided. What is gained at the start stands in crate `start`.
 pub mod Refused
 pub mod Demands
 pub mod Answer

@@ -1,26 +1,19 @@
-// The verdict: can an intruder who heard the messages before the cut derive the goal?
+// The verdict: can an intruder who knows the public atoms and heard the messages before the cut derive the goal?
 ghost use mathlib.Core.Path.{_≡_};
-ghost use Prim.Native.Nat.{_+_, _*_, _≤_, _<_};
+ghost use Prim.Native.Nat.{_+_, _*_, _≤_};
 ghost use lib.ListN.{length};
-ghost use Rattle.deduction.specs.Standard.{setAt};
-ghost use Rattle.deduction.specs.Run.{knowledge};
-ghost use Rattle.dag.specs.Sheet.{countOf, traceLength};
-ghost use Rattle.dag.specs.Record.{entryAt};
+ghost use Rattle.dag.specs.Sheet.{traceLength};
 ghost use Rattle.dag.specs.Refusal.{refusal};
 ghost use Rattle.dag.specs.Code.{codeOf};
-ghost use Rattle.knowledge.specs.Inner.Rows.{Remainders};
-ghost use Rattle.knowledge.specs.Inner.State.{stateOf, Room};
-ghost use Rattle.verdict.specs.Start.{startHeads};
 ghost use Rattle.verdict.specs.Refused.{refusalOf};
 ghost use Rattle.verdict.specs.Demands.{Demanded};
 ghost use Rattle.verdict.specs.Answer.{answerOf, bufferOf};
 ghost use Rattle.verdict.specs.Code.{numberOf, madeIn};
-ghost use Rattle.verdict.specs.Inner.Decide.{Heard, Decided};
+ghost use Rattle.verdict.specs.Inner.Decide.{Decided};
 use dag::Refusal;
 use dag::sheet;
 use derive::run::Ended;
 use derive::run::Verdict;
-use knowledge::Knowledge;
 
 // The answer: refused, or the verdict with the number of steps made (document 01: reached, out of reach, stopped).
 pub enum Answer {
@@ -28,37 +21,6 @@ pub enum Answer {
     Derivable(u16),
     Underivable(u16),
     Exhausted(u16),
-}
-
-// Hears the messages before the cut, in order, each as its representative. A known one changes nothing, so the state isn't handed over for it.
-fn hear(
-    s: &[u8],
-    cut: u16,
-    sets: &[[u64; 4]; 256],
-    reps: &[u8; 256],
-    remainders: &mut [[u64; 4]; 256],
-) -> Knowledge
-    requires { ⌜ Heard (now s) cut (now sets) (now reps) (now remainders) ⌝ }
-    ensures state { λ r. ⌜ stateOf (r .known) (r .rows) (r .len) ≡ knowledge (entryAt (now (s .entry))) (startHeads (now (s .entry)) cut) ⌝ }
-    ensures room { λ r. ⌜ Room (r .known) (r .len) ⌝ }
-    ensures sizes { λ r. ⌜ (length (r .rows) ≡ 2048) × (length (now (remainders .exit)) ≡ 256) ⌝ }
-    ensures cache { λ r. ⌜ Remainders (setAt (entryAt (now (s .entry)))) (countOf (now (s .entry))) (r .rows) (r .len) (now (remainders .exit)) ⌝ }
-{
-    let n = sheet::count(s) as usize;
-    let mut state = Knowledge::new();
-    let mut k: u16 = 0;
-    while k < cut {
-        let e = reps[sheet::trace_at(s, k) as usize];
-        let known = state.known;
-        if !bitset::member(known, e) {
-            let before = state.len;
-            state = state.hear(e, sets[e as usize]);
-            let after = state.len;
-            knowledge::sweep_added(remainders, n, &state.rows, before, after);
-        }
-        k += 1;
-    }
-    state
 }
 
 // The verdict on a good sheet, with the steps and the known set written to out.
@@ -71,7 +33,7 @@ fn decide(s: &[u8], cut: u16, budget: u16, out: &mut [u8]) -> Ended
     let mut reps = [0u8; 256];
     canonical::tables(s, &mut keys, &mut sets, &mut reps);
     let mut remainders = sets;
-    let start = hear(s, cut, &sets, &reps, &mut remainders);
+    let start = start::state(s, cut, &keys, &sets, &reps, &mut remainders);
     let known = start.known;
     let mut rows = start.rows;
     let ended = derive::run::run(

@@ -22,7 +22,7 @@ use Rattle.derive.specs.Inner.Ran.{endOf, Ran}
 use Rattle.derive.specs.declared.run.Ended as program
 use Rattle.derive.proofs.Laws.Machine.{asEnded, machine-run}
 use Rattle.verdict.specs.Answer.{outcomeOf}
-use Rattle.verdict.specs.Start.{startHeads}
+use Rattle.start.specs.Start.{startHeads}
 use Rattle.verdict.specs.Inner.Decide.{Decided}
 
 module _ (s : List ℕ) (cut budget : ℕ) (known rows : List ℕ) (len : ℕ) (state : stateOf known rows len ≡ knowledge (entryAt s) (startHeads s cut)) where

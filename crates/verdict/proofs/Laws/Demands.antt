@@ -30,7 +30,8 @@ use Rattle.dag.proofs.Laws.Good.{Good, good}
 use Rattle.derive.specs.Bytes.{stepsBytes}
 use Rattle.derive.proofs.Laws.Buffer.{steps-length}
 use Rattle.verdict.specs.Answer.{outcomeOf}
-use Rattle.verdict.specs.Start.{startHeads, startTerms}
+use Rattle.start.specs.Start.{startEntries, startHeads, startTerms}
+use Rattle.start.proofs.Laws.Heads.{start-below}
 use Rattle.verdict.specs.Demands.{verdictCode, goalTerm, stepsIn, Meets}
 use Rattle.verdict.proofs.Laws.Readback.{Narrow, read-back}
 
@@ -62,18 +63,6 @@ made-narrow e n down few (Made.more {es = es} {s = r} next rest) below s m =
     open-below (Follows.encrypt o k j p) = o .0 .0
     open-below (Follows.sum u o d p) = o .0 .0
 
--- every heard entry before the cut is an entry
-listed-from : (f : ℕ → ℕ) (n i : ℕ) → List·Memᴰ i (listed f n) → (k : ℕ) × (k < n) × (i ≡ f k)
-unfolding listed
-listed-from f zero i m = absurd (List·Memᴰ·not-nil m)
-listed-from f (suc n) i m =
-    ⊎-elim (λ q. let (k, h, p) = listed-from f n i q in (k, le-trans h (omega arith), p)) (λ q. (n, le-refl (suc n), List·Memᴰ·eq-of-singleton q)) (List·Memᴰ·append-cases (listed f n) m)
-
-pub trace-below : (s : List ℕ) → Good s → (cut : ℕ) → cut ≤ traceLength s → (i : ℕ) → List·Memᴰ i (traceOf s cut) → i < countOf s
-trace-below s g cut h i m =
-    let (k, l, p) = listed-from (traceAt s) cut i m in
-    subst (λ (x : ℕ). x < countOf s) (sym p) (g .listed k (le-trans l h))
-
 -- what stands after two pieces of a buffer
 front-kept : (a b rest : List ℕ) (n : ℕ) → length a + length b ≡ n → drop n (a ++ (b ++ rest)) ≡ rest
 front-kept a b rest n l = ap (drop n) (sym (append-assoc a b rest)) ∙ drop-at (a ++ b) rest n (length-append a b ∙ l)
@@ -87,11 +76,11 @@ module _ (s : List ℕ) (cut budget : ℕ) (ok : refusal s ≡ 0) (within : cut 
   o = outcomeOf s cut budget
 
   -- what the theorems say of the run
-  below : (i : ℕ) → List·Memᴰ i (traceOf s cut) → i < countOf s
-  below = trace-below s g cut within
+  below : (i : ℕ) → List·Memᴰ i (startEntries s cut) → i < countOf s
+  below = start-below s ok cut within
 
   pub start-is-heads : Heads (entryAt s) (countOf s) (startHeads s cut)
-  start-is-heads = trace-heads (entryAt s) (countOf s) (g .downward) (traceOf s cut) below
+  start-is-heads = trace-heads (entryAt s) (countOf s) (g .downward) (startEntries s cut) below
 
   run-made : Made (termAt (entryAt s)) (countOf s) (startHeads s cut) (o .steps)
   unfolding outcomeOf
@@ -136,16 +125,16 @@ module _ (s : List ℕ) (cut budget : ℕ) (ok : refusal s ≡ 0) (within : cut 
   run-passes : o .verdict ≡ derivable → (end : List Term) × Replays (termAt (entryAt s)) (countOf s) (startTerms s cut) (o .steps) end × Holds end (goalTerm s)
   unfolding outcomeOf
   run-passes p =
-      let (r, h) = trace-run-replays (entryAt s) (countOf s) (g .downward) (g .few) (goalOf s) budget (traceOf s cut) below (g .goal) p in
+      let (r, h) = trace-run-replays (entryAt s) (countOf s) (g .downward) (g .few) (goalOf s) budget (startEntries s cut) below (g .goal) p in
       (endState (termAt (entryAt s)) (startTerms s cut) (o .steps), r, h)
 
   run-out : o .verdict ≡ underivable → ¬ Derivable (startTerms s cut) (goalTerm s)
   unfolding outcomeOf
-  run-out = trace-underivable-exact (entryAt s) (countOf s) (g .downward) (g .few) (goalOf s) budget (traceOf s cut) below (g .goal)
+  run-out = trace-underivable-exact (entryAt s) (countOf s) (g .downward) (g .few) (goalOf s) budget (startEntries s cut) below (g .goal)
 
   pub run-iff : countOf s ≤ budget → (o .verdict ≡ underivable) ↔ (¬ Derivable (startTerms s cut) (goalTerm s))
   unfolding outcomeOf
-  run-iff = trace-underivable-iff (entryAt s) (countOf s) (g .downward) (g .few) (goalOf s) budget (traceOf s cut) below (g .goal)
+  run-iff = trace-underivable-iff (entryAt s) (countOf s) (g .downward) (g .few) (goalOf s) budget (startEntries s cut) below (g .goal)
 
   pub run-ends : countOf s ≤ budget → ¬ (o .verdict ≡ exhausted)
   unfolding outcomeOf

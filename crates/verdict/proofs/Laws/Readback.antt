@@ -16,6 +16,7 @@ use Rattle.deduction.specs.Step.{Step, step}
 use Rattle.dag.specs.Sheet.{numberAt}
 use Rattle.derive.specs.Bytes.{two, stepBytes, stepsBytes}
 use Rattle.derive.proofs.Laws.Buffer.{step-length, steps-more}
+use Rattle.start.proofs.Laws.Lists.{getD-member}
 use Rattle.verdict.specs.Demands.{readStep, stepsIn}
 
 -- a set that its 32 bytes hold
@@ -48,11 +49,6 @@ drop-steps (s ∷ ss) rest (suc k) h =
 
 none : Step
 none = step 0 0 0 0 0
-
-getD-member : (ss : List Step) (k : ℕ) (d : Step) → k < length ss → List·Memᴰ (getD ss k d) ss
-getD-member [] k d h = absurd (omega arith)
-getD-member (s ∷ ss) zero d h = List·Memᴰ·head refl
-getD-member (s ∷ ss) (suc k) d h = List·Memᴰ·tail (getD-member ss k d (le-of-suc-le-suc h))
 
 module _ (front : List ℕ) (ss : List Step) (rest : List ℕ) (thirty-two : length front ≡ 32) (narrow : (s : Step) → List·Memᴰ s ss → Narrow s) where
   out : List ℕ

@@ -1,4 +1,3 @@
--- `verdict::hear` meets its contract. The loop's invariant: the state is the knowledge of the messages heard so far.
 use mathlib.Core.Path.{_≡_, sym, ap, _∙_}
 use mathlib.Core.Logic.{⊎-elim}
 use Prim.Native.Nat.{ℕ, _+_, _-_, _≤_, _<_}
@@ -6,58 +5,58 @@ use native.Mathlib.Nat.{le-trans, le-of-eq}
 use native.Mathlib.Omega.{arith}
 use mir.Syntax.{w64}
 use mir.Val.{Fits}
-use lib.ListN.{getD}
+use lib.ListN.{getD, take}
 use borrow.Author.Needs.{needs}
 use borrow.Author.Tests.{not-false}
 use denote.Ref.{now}
-use Rattle.verdict.specs.Inner.Decide.{Heard}
-use Rattle.verdict.specs.Start.{startHeads}
+use Rattle.start.specs.Inner.State.{Hearing}
 use Rattle.dag.specs.Sheet.{countOf}
 use Rattle.dag.specs.Record.{entryAt}
 use Rattle.dag.proofs.Laws.Good.{good}
 use Rattle.deduction.specs.Run.{knowledge}
 use Rattle.knowledge.proofs.Laws.Learn.{learn-step, ones-words}
-use Rattle.verdict.proofs.Laws.Hearing.{Held, held-same, held-none, held-again, held-more, hear-trace, hear-small}
-use Rattle.verdict.proofs.hear.Statement.{statement}
-use Rattle.verdict.proofs.hear.Tie as tie
+use Rattle.start.proofs.Laws.Hearing.{Held, held-same, held-none, held-again, held-more, head-small}
+use Rattle.start.proofs.hear.Statement.{statement}
+use Rattle.start.proofs.hear.Tie as tie
 
 abbrev Inv-loop : tie.InvT-loop
-Inv-loop s cut sets reps remainders₀ n state₀ k₀ remainders state k =
-    (n ≡ countOf s) × (k ≤ cut) × Heard s cut sets reps remainders₀ × Held s k state remainders
+Inv-loop s list len sets remainders₀ n state₀ k₀ remainders state k =
+    (n ≡ countOf s) × (k ≤ len) × Hearing s list len sets remainders₀ × Held s (take k list) state remainders
 
 abbrev μ-loop : tie.MeasureT-loop
-μ-loop s cut sets reps remainders₀ n state₀ k₀ remainders state k =
-    cut - k
+μ-loop s list len sets remainders₀ n state₀ k₀ remainders state k =
+    len - k
 
--- one of the messages before the cut
-below : (c : tie.In-loop Inv-loop μ-loop) → c .before .loop .k < c .before .before .before .before .before .args .cut
+-- one of the heads to hear
+below : (c : tie.In-loop Inv-loop μ-loop) → c .before .loop .k < c .before .before .before .before .before .args .len
 below c = omega (arith, c .loop-test .taken)
 
 -- a head fits a byte
-small : (c : tie.After-trace-at Inv-loop μ-loop) → getD (now (c .before .before .before .before .before .before .args .reps)) (c .trace-at .result) 0 < 256
-small c = hear-small (c .before .before .loop .inv .2) (c .before .before .loop .k) (below (c .before)) (c .trace-at .ensures)
+small : (c : tie.In-loop Inv-loop μ-loop) → getD (now (c .before .before .before .before .before .args .list)) (c .before .loop .k) 0 < 256
+small c = head-small (c .before .loop .inv .2) (c .before .loop .k) (below c)
 
 few : (c : tie.At-loop Inv-loop μ-loop) → c .before .before .count .result ≤ 256
 few c = le-trans (le-of-eq (c .loop .inv .0)) (good (now (c .before .before .before .before .args .s)) (c .loop .inv .2 .good) .few)
 
--- at most 256 rows after a message
+-- at most 256 rows after a head
 rows-more : (c : tie.After-hear Inv-loop μ-loop) → c .hear .result .len ≤ 256
 rows-more c =
     let r = c .hear .result in
     le-trans (c .hear .ensures .1 .0) (ones-words (r .known) (search needs) (λ i. let f : Fits w64 (getD (r .known) i 0) = search needs in f .fits))
 
--- one message more: heard, or known before
-more : (c : tie.Joined1 Inv-loop μ-loop) → let a = c .before .before .before .before .before .before in Held (now (a .before .before .before .before .args .s)) (a .loop .k + 1) (c .if1 .state) (c .if1 .remainders)
+-- one head more: heard, or known before
+more : (c : tie.Joined1 Inv-loop μ-loop) → let a = c .before .before .before .before .before in
+    let g = a .before .before .before .before .args in Held (now (g .s)) (take (a .loop .k + 1) (now (g .list))) (c .if1 .state) (c .if1 .remainders)
 more c =
     let t = c .before .before .before .before in
-    let a = t .before .before in
+    let a = t .before in
     let x = a .loop .state in
     ⊎-elim
-    (λ w. held-same (w .8) (w .7) (held-more (a .loop .inv .2) (a .loop .k) (below (t .before)) (t .trace-at .ensures) x (a .loop .remainders) (a .loop .inv .3) (w .2 .result) (w .6 .last .0) _ (a .loop .inv .0) (w .2 .ensures .0) (w .2 .ensures .1 .0) (w .2 .ensures .1 .1) (w .6 .ensures .0) (w .6 .ensures .1 .0)))
-    (λ w. held-same (w .2) (w .1) (held-again (a .loop .inv .2) (a .loop .k) (below (t .before)) (t .trace-at .ensures) x (a .loop .remainders) (a .loop .inv .3) (sym (c .before .member .ensures) ∙ not-false _ (w .0 .left))))
+    (λ w. held-same (w .8) (w .7) (held-more (a .loop .inv .2) (a .loop .k) (below t) x (a .loop .remainders) (a .loop .inv .3) (w .2 .result) (w .6 .last .0) _ (a .loop .inv .0) (w .2 .ensures .0) (w .2 .ensures .1 .0) (w .2 .ensures .1 .1) (w .6 .ensures .0) (w .6 .ensures .1 .0)))
+    (λ w. held-same (w .2) (w .1) (held-again (a .loop .inv .2) (a .loop .k) (below t) x (a .loop .remainders) (a .loop .inv .3) (sym (c .before .member .ensures) ∙ not-false _ (w .0 .left))))
     (c .if1 .came)
 
-done : (c : tie.After-loop Inv-loop μ-loop) → c .before .loop .k ≡ c .before .before .before .before .before .args .cut
+done : (c : tie.After-loop Inv-loop μ-loop) → c .before .loop .k ≡ c .before .before .before .before .before .args .len
 done c = omega (arith, c .before .loop .inv .1)
 
 count-requires : tie.Need-count-requires Inv-loop μ-loop
@@ -73,14 +72,8 @@ loop-holds : tie.Need-loop-holds Inv-loop μ-loop
 loop-holds c = let r = c .before .before .before .pre in
     (c .before .count .ensures, search needs, r, held-none r (c .new .result) (c .new .ensures .0) (c .new .ensures .1 .0) (search needs))
 
-trace-at-requires : tie.Need-trace-at-requires Inv-loop μ-loop
-trace-at-requires c κs = search needs
-
-cast-e : tie.Need-cast-e Inv-loop μ-loop
-cast-e c = search needs
-
 element-copy-out-e : tie.Need-element-copy-out-e Inv-loop μ-loop
-element-copy-out-e c = hear-trace (c .before .before .loop .inv .2) (c .before .before .loop .k) (below (c .before)) (c .trace-at .ensures)
+element-copy-out-e c = omega (arith, below c, c .before .loop .inv .2 .within)
 
 member-requires : tie.Need-member-requires Inv-loop μ-loop
 member-requires c κs = search needs
@@ -95,11 +88,11 @@ element-copy-out-hear : tie.Need-element-copy-out-hear Inv-loop μ-loop
 element-copy-out-hear c = small (c .before .before .before .before)
 
 hear-requires : tie.Need-hear-requires Inv-loop μ-loop
-hear-requires c κs = c .before .before .before .before .before .before .before .loop .inv .3 .room
+hear-requires c κs = c .before .before .before .before .before .before .loop .inv .3 .room
 
 sweep-added-requires : tie.Need-sweep-added-requires Inv-loop μ-loop
 sweep-added-requires c κs = let m = c .before .before .before in
-    let a = m .before .before .before .before .before .before .before .before in
+    let a = m .before .before .before .before .before .before .before in
     let x = a .loop .state in
     let r = m .hear .result in
     let step = learn-step (x .known) (x .rows) (x .len) _ _ (r .known) (r .rows) (r .len) (m .hear .ensures .0) in
@@ -109,15 +102,15 @@ add-k : tie.Need-add-k Inv-loop μ-loop
 add-k c = search needs
 
 loop-less : tie.Need-loop-less Inv-loop μ-loop
-loop-less c = omega (arith, c .before .before .before .before .before .loop-test .taken)
+loop-less c = omega (arith, c .before .before .before .before .loop-test .taken)
 
 loop-again : tie.Need-loop-again Inv-loop μ-loop
-loop-again c = let a = c .before .before .before .before .before .before in (a .loop .inv .0, omega (arith, c .before .before .before .before .before .loop-test .taken), a .loop .inv .2, more c)
+loop-again c = let a = c .before .before .before .before .before in (a .loop .inv .0, omega (arith, c .before .before .before .before .loop-test .taken), a .loop .inv .2, more c)
 
 returns : tie.Need-returns Inv-loop μ-loop
 returns c = let h = c .before .loop .inv .3 in
-    let s = now (c .before .before .before .before .before .args .s) in
-    (h .state ∙ ap (λ (k : ℕ). knowledge (entryAt s) (startHeads s k)) (done c), (h .room, ((h .words, h .lines), h .cache)))
+    let a = c .before .before .before .before .before .args in
+    (h .state ∙ ap (λ (k : ℕ). knowledge (entryAt (now (a .s))) (take k (now (a .list)))) (done c), (h .room, ((h .words, h .lines), h .cache)))
 
 pub hear-spec : {M : Type 1} → statement M
 hear-spec =
@@ -129,8 +122,6 @@ hear-spec =
     cast-n
     new-requires
     loop-holds
-    trace-at-requires
-    cast-e
     element-copy-out-e
     member-requires
     cast-hear

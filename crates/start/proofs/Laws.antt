@@ -1,0 +1,3 @@
+pub mod Lists
+pub mod Heads
+pub mod Hearing

@@ -1,0 +1,49 @@
+-- What making the state at the start needs.
+-- Defined: `publicKey`, the key of a public atom; `Keyed`, a table of keys; `Listing`, what listing heads needs; `Hearing`, what hearing them needs;
+-- `Started`, what the whole needs.
+use Prim.Native.Nat.{ℕ, _+_, _^_, _≤_, _<_}
+use mathlib.Core.Path.{_≡_}
+use mathlib.Core.Bool.{Bool, _&&_}
+use mathlib.Core.List.{List, []}
+use lib.Dec.{leb, ltb}
+use lib.ListN.{length, getD}
+use Rattle.bitset.specs.Words.{value}
+use Rattle.deduction.specs.Standard.{setAt, repAt}
+use Rattle.dag.specs.Sheet.{countOf, traceLength}
+use Rattle.dag.specs.Record.{entryAt}
+use Rattle.dag.specs.Refusal.{refusal}
+use Rattle.canonical.specs.Inner.Key.{keyAt}
+use Rattle.canonical.specs.Inner.Tables.{Right}
+
+-- a public atom's key: an atom's key is 2 ^ 32 and its number
+abbrev pub publicKey : ℕ → Bool
+publicKey k = leb (2 ^ 32) k && ltb k (2 ^ 32 + 256)
+
+-- the table has the keys of a sheet's entries
+abbrev pub Keyed : List ℕ → List ℕ → Type 0
+Keyed s keys = (i : ℕ) → i < countOf s → getD keys i 0 ≡ keyAt (entryAt s) i
+
+-- the table has the representatives of a good sheet's entries, and the list has room for heads from place `at` on
+pub record Listing (s reps list : List ℕ) (at : ℕ) : Type 0 where
+  pub good : refusal s ≡ 0
+  pub rep : (i : ℕ) → i < countOf s → getD reps i 0 ≡ repAt (entryAt s) i
+  pub room : length list ≡ 512
+  pub place : at ≤ 256
+
+-- the first `len` numbers of the list are entries, the table has their sets, and each remainder is its set
+pub record Hearing (s list : List ℕ) (len : ℕ) (sets remainders : List (List ℕ)) : Type 0 where
+  pub good : refusal s ≡ 0
+  pub room : length list ≡ 512
+  pub within : len ≤ 512
+  pub below : (k : ℕ) → k < len → getD list k 0 < countOf s
+  pub set : (i : ℕ) → i < countOf s → value (getD sets i []) ≡ setAt (entryAt s) i
+  pub lines : length remainders ≡ 256
+  pub fresh : (i : ℕ) → i < countOf s → value (getD remainders i []) ≡ setAt (entryAt s) i
+
+-- the tables are right for a good sheet, the cut is within its log, and each remainder is its set
+pub record Started (s : List ℕ) (cut : ℕ) (keys : List ℕ) (sets : List (List ℕ)) (reps : List ℕ) (remainders : List (List ℕ)) : Type 0 where
+  pub good : refusal s ≡ 0
+  pub within : cut ≤ traceLength s
+  pub right : Right (entryAt s) (countOf s) keys sets reps
+  pub lines : length remainders ≡ 256
+  pub fresh : (i : ℕ) → i < countOf s → value (getD remainders i []) ≡ setAt (entryAt s) i
