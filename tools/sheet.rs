@@ -24,6 +24,8 @@ mod judge;
 mod layout;
 #[path = "sheet/model.rs"]
 mod model;
+#[path = "sheet/notes.rs"]
+mod notes;
 #[path = "sheet/output.rs"]
 mod output;
 #[path = "sheet/print.rs"]

@@ -50,7 +50,8 @@ const JUDGE: &str = "\
 usage: sheet judge [SHEET] [--cut C] [-o FILE]
 
 Asks the proved library whether a listener gains the goal, and says it in names. SHEET is text notation or sheet bytes.
-The first line is the verdict, reached or out of reach. Then a line a cut, up to the first reached, and the steps in order:
+The first line is the verdict, reached or out of reach. Then the atoms on the hull label if there are any, a line a cut, up to the first
+reached, and the steps in order:
 
     LEFT split left PAIR            RIGHT split right PAIR
     MESSAGE open SEAL with KEY      PAIR join LEFT, RIGHT
@@ -68,7 +69,7 @@ usage: sheet assemble [TEXT] [-o FILE]
 Reads the text notation of a sheet and writes the sheet's bytes. One statement a line, # begins a comment:
 
     LABEL zero
-    LABEL atom NUMBER           0 to 65535
+    LABEL atom NUMBER           0 to 65535; 0 to 255 are the names on the hull label, which every listener has
     LABEL atom                  a number of 1000 or more that no other entry has
     LABEL pair LEFT RIGHT
     LABEL seal MESSAGE KEY
@@ -83,14 +84,16 @@ Atoms with one number are one term: where two of them have names, a note on stan
 const DISASSEMBLE: &str = "\
 usage: sheet disassemble [SHEET] [-o FILE]
 
-Reads a sheet's bytes and writes its text notation, with numbers as labels and terms in short as comments.
+Reads a sheet's bytes and writes its text notation, with numbers as labels. Comments have terms in short, and say which atoms are on the
+hull label.
 A sheet that would be refused gives the refusal's number and word.
 ";
 
 const DRAW: &str = "\
 usage: sheet draw [--svg | --dot] [--needed] SHEET [CARD] [-o FILE]
 
-Draws the ladder: a box for each rung and for each heard message that is used, lines from a rung's sources, the goal in gold.
+Draws the ladder: a box for each rung, and for each atom on the hull label and each heard message that is used; lines from a rung's
+sources; the goal in gold. Boxes of the hull label have square corners.
 SHEET is text notation (names become labels) or sheet bytes. CARD is what zuwendryk prints for it; without it the library is
 asked. One of them may be -. A long ladder is drawn in rows; a small box stands for a term of an earlier part.
 

@@ -2,6 +2,7 @@
 
 use super::card::Rule;
 use super::graph::{Kind, Node, LONGEST_TERM};
+use super::model::ON_HULL_LABEL;
 use super::short::{clipped, columns, cut};
 
 const NAME_CHARACTER: f64 = 9.1;
@@ -53,6 +54,7 @@ fn short_term(term: &str) -> String {
 // The small line over the name.
 pub fn tag(node: &Node) -> String {
     match &node.kind {
+        Kind::Public => ON_HULL_LABEL.to_string(),
         Kind::Heard(places) if places.len() > 4 => format!("heard {} times", places.len()),
         Kind::Heard(places) => format!("heard {}", places.iter().map(usize::to_string).collect::<Vec<_>>().join(", ")),
         // As the card's line begins, with the rung's place before it.
@@ -97,6 +99,7 @@ pub fn size(node: &Node) -> (f64, f64) {
 
 fn class(node: &Node) -> &'static str {
     match node.kind {
+        Kind::Public => "public",
         Kind::Heard(_) => "heard",
         Kind::Rung(..) => "rung",
         Kind::Again(_) => "again",
@@ -106,6 +109,7 @@ fn class(node: &Node) -> &'static str {
 
 fn colour(node: &Node) -> &'static str {
     match node.kind {
+        Kind::Public => "public-ink",
         Kind::Heard(_) => "heard-ink",
         Kind::Again(_) => "again-ink",
         Kind::Missed => "missed-ink",
@@ -126,7 +130,8 @@ pub fn draw(node: &Node, area: Area, pale: bool) -> String {
     let more = format!("{}{}", if node.goal { " goal" } else { "" }, if pale { " pale" } else { "" });
     let left = x + MARGIN;
     let mut out = format!("<g class=\"{}{more}\">\n<title>{}</title>\n", class(node), escape(&spoken(node)));
-    out.push_str(&format!("<rect x=\"{x:.1}\" y=\"{y:.1}\" width=\"{width:.1}\" height=\"{height:.1}\" rx=\"7\"/>\n"));
+    let corner = if node.kind == Kind::Public { 0 } else { 7 };
+    out.push_str(&format!("<rect x=\"{x:.1}\" y=\"{y:.1}\" width=\"{width:.1}\" height=\"{height:.1}\" rx=\"{corner}\"/>\n"));
     let bar = format!("M{:.1} {:.1}v{:.1}", x + 5.0, y + 10.0, height - 20.0);
     out.push_str(&format!("<path class=\"bar {}\" d=\"{bar}\"/>\n", colour(node)));
     out.push_str(&text(&format!("tag {}", colour(node)), left, y + 18.0, "", &tag(node)));

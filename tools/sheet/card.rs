@@ -2,7 +2,7 @@
 
 use super::bytes::refusal_word;
 use super::heads::{add, Heads};
-use super::model::{Entry, Sheet};
+use super::model::{Entry, Sheet, ON_HULL_LABEL};
 use super::words::{decimal, end_of, fault, line, quoted, utf8, Fault, Line, Place, Word};
 
 #[derive(Clone, Copy, Debug, PartialEq)]
@@ -88,10 +88,18 @@ fn agree(what: &str, (found, place): (usize, Place), sheets: usize) -> Result<()
 struct Replay<'a> {
     sheet: &'a Sheet,
     heads: &'a Heads,
+    public: Vec<usize>,
     gained: Vec<bool>,
 }
 
-impl Replay<'_> {
+impl<'a> Replay<'a> {
+    // Before the first message the public atoms are gained.
+    fn start(sheet: &'a Sheet, heads: &'a Heads) -> Replay<'a> {
+        let public = sheet.public();
+        let gained = (0..sheet.entries.len()).map(|entry| public.contains(&entry)).collect();
+        Replay { sheet, heads, public, gained }
+    }
+
     fn hear(&mut self, cut: usize) {
         for entry in self.sheet.heard.iter().take(cut) {
             self.gained[self.heads.head[*entry]] = true;
@@ -100,6 +108,10 @@ impl Replay<'_> {
 
     fn goal_gained(&self) -> bool {
         self.gained[self.heads.head[self.sheet.goal]]
+    }
+
+    fn goal_public(&self) -> bool {
+        self.public.contains(&self.heads.head[self.sheet.goal])
     }
 
     fn known(&self) -> usize {
@@ -192,17 +204,19 @@ fn first_line(line: &Line, sheet: &Sheet) -> Result<(), Fault> {
     ends(line, 4)
 }
 
-// The number known in an out-of-reach line. It is at least what was heard and at least what was known before.
+// The number known in an out-of-reach line. It is at least what is public or was heard, and at least what was known before.
 fn out_of_reach(line: &Line, replay: &Replay, before: usize) -> Result<usize, Fault> {
     words(line, 2, "out of reach known")?;
     let (known, place) = number(line, 6, "the number known")?;
     ends(line, 7)?;
     let (least, most) = (replay.known().max(before), replay.heads.count().saturating_sub(1));
     if replay.goal_gained() {
-        return fault(line.words[2].place, "found out of reach, but the goal was heard before this cut: the card is of another sheet".to_string());
+        let how = if replay.goal_public() { format!("is {ON_HULL_LABEL}") } else { "was heard before this cut".to_string() };
+        return fault(line.words[2].place, format!("found out of reach, but the goal {how}: the card is of another sheet"));
     }
     if known < least || known > most {
-        return fault(place, format!("found known {known}, expected {least} to {most}: the card is of another sheet"));
+        let less = if known < replay.public.len() { format!(", or leaves out what is {ON_HULL_LABEL}") } else { String::new() };
+        return fault(place, format!("found known {known}, expected {least} to {most}: the card is of another sheet{less}"));
     }
     Ok(known)
 }
@@ -229,7 +243,7 @@ pub fn parse(bytes: &[u8], sheet: &Sheet, heads: &Heads) -> Result<Card, Fault> 
     let end = end_of(text);
     let mut lines = Lines { lines: text.lines().enumerate(), end };
     first_line(&lines.next("a line: goal ENTRY heard COUNT")?, sheet)?;
-    let mut replay = Replay { sheet, heads, gained: vec![false; sheet.entries.len()] };
+    let mut replay = Replay::start(sheet, heads);
     let mut known = 0;
     for cut in 0..=sheet.heard.len() {
         replay.hear(cut);

@@ -23,6 +23,9 @@ fn node_line(number: usize, node: &Node) -> String {
     let label = quoted(&format!("{}{flag}\n{}\n{}{same}", tag(node), node.label, node.term));
     let look = match (&node.kind, node.goal) {
         (Kind::Missed, _) => "style=\"filled,rounded,dashed\", fillcolor=\"#fdecea\", color=\"#c0392b\", penwidth=2",
+        // Public atoms have square corners.
+        (Kind::Public, true) => "style=filled, fillcolor=\"#fff2c2\", color=\"#c98a00\", penwidth=2",
+        (Kind::Public, _) => "style=filled, fillcolor=\"#e4e8ec\", color=\"#5f6d7d\"",
         (_, true) => "style=\"filled,rounded\", fillcolor=\"#fff2c2\", color=\"#c98a00\", penwidth=2",
         (Kind::Heard(_), _) => "style=\"filled,rounded\", fillcolor=\"#e9f1fc\", color=\"#7d9fd0\"",
         _ => "style=\"filled,rounded\", fillcolor=\"#ffffff\", color=\"#8b94a6\"",
@@ -36,7 +39,7 @@ pub fn dot(graph: &Graph) -> String {
     let mut out = format!("digraph ladder {{\n  rankdir=LR;\n  label={};\n  labelloc=t;\n  bgcolor=\"#fbfaf6\";\n", quoted(&caption));
     out.push_str("  node [shape=box, fontname=\"DejaVu Sans Mono\", fontsize=11];\n  edge [color=\"#56627a\"];\n");
     for (i, node) in graph.nodes.iter().enumerate() {
-        // Without a ladder nothing is pale: the heard messages are all there is.
+        // Without a ladder nothing is pale: public atoms and heard messages are all there is.
         let shown = Node { needed: node.needed || !graph.reached, ..node.clone() };
         out.push_str(&node_line(i, &shown));
     }

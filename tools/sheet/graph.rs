@@ -1,12 +1,16 @@
-// The ladder as a graph: one node for each heard message that is used and for each rung, one edge for each source of a rung.
+// The ladder as a graph: one node for each public atom and each heard message that is used and for each rung, one edge for each source
+// of a rung.
 
 use super::card::{Card, Rule, Rung};
 use super::heads::Heads;
 use super::model::{Entry, Sheet};
+use super::notes::{counted, left_out, notes, undrawn};
 use super::short::{columns, cut};
 
 #[derive(Clone, Debug, PartialEq)]
 pub enum Kind {
+    // A public atom, also where it was heard.
+    Public,
     // The places in the order heard, from 1.
     Heard(Vec<usize>),
     // The rung's place in the ladder, from 1.
@@ -42,7 +46,8 @@ pub struct Edge {
     pub needed: bool,
 }
 
-// Heard messages come first, in the order heard, then the rungs in theirs. Edges are in the order of the rungs.
+// Public atoms come first, in the order of their entries, then heard messages in the order heard, then the rungs in theirs. Edges are in
+// the order of the rungs.
 #[derive(Clone, Debug, Default)]
 pub struct Graph {
     pub nodes: Vec<Node>,
@@ -56,10 +61,6 @@ pub struct Graph {
 
 pub const LONGEST_TERM: usize = 36;
 const LONGEST_GOAL: usize = 40;
-
-pub fn counted(n: usize, one: &str, many: &str) -> String {
-    format!("{n} {}", if n == 1 { one } else { many })
-}
 
 // The entry's term, one level deep, with its names as `label` writes them.
 fn term(sheet: &Sheet, entry: usize, label: impl Fn(&usize) -> String) -> String {
@@ -115,7 +116,12 @@ impl Maker<'_> {
         }
     }
 
-    // A node for each different heard message before the cut that is wanted.
+    // A node for each public atom that is wanted.
+    fn public(&mut self, wanted: impl Fn(usize) -> bool) {
+        self.sheet.public().into_iter().filter(|head| wanted(*head)).for_each(|head| self.node(Kind::Public, head));
+    }
+
+    // A node for each different heard message before the cut that is wanted and has none yet.
     fn hear(&mut self, cut: usize, wanted: impl Fn(usize) -> bool) {
         let heard: Vec<usize> = self.sheet.heard.iter().take(cut).copied().collect();
         for (i, entry) in heard.iter().enumerate() {
@@ -158,33 +164,6 @@ fn edges(rule: Rule, sources: &[usize], to: usize, node_of: &[Option<usize>]) ->
     list
 }
 
-// What the picture leaves to words: dashed lines, pale rungs, and messages that aren't drawn.
-fn notes(nodes: &[Node], edges: &[Edge], unused: usize, later: usize) -> Vec<String> {
-    let spare = spare(nodes).0;
-    let mut notes = Vec::new();
-    if edges.iter().any(|edge| edge.key) {
-        notes.push("A dashed line brings a key.".to_string());
-    }
-    if spare > 0 {
-        notes.push(format!("{PALE}{} that the goal doesn't need.", counted(spare, "rung", "rungs")));
-    }
-    if unused > 0 {
-        notes.push(format!("Not drawn: {} that no rung uses.", counted(unused, "heard message", "heard messages")));
-    }
-    if later > 0 {
-        notes.push(format!("Not drawn: {} heard later.", counted(later, "message", "messages")));
-    }
-    notes
-}
-
-const PALE: &str = "Pale: ";
-
-// How many rungs and how many heard messages the goal doesn't need.
-fn spare(nodes: &[Node]) -> (usize, usize) {
-    let rungs = nodes.iter().filter(|node| matches!(node.kind, Kind::Rung(..)) && !node.needed).count();
-    (rungs, nodes.iter().filter(|node| !node.needed).count() - rungs)
-}
-
 // The graph with these nodes alone, in this order.
 pub fn restrict(graph: &Graph, kept: &[usize]) -> Graph {
     let mut place = vec![None; graph.nodes.len()];
@@ -195,16 +174,11 @@ pub fn restrict(graph: &Graph, kept: &[usize]) -> Graph {
 
 // Leaves out what the goal doesn't need, and says how much that is. Without a ladder everything stays.
 pub fn needed(graph: Graph) -> Graph {
-    let (rungs, heard) = spare(&graph.nodes);
-    if !graph.reached || rungs + heard == 0 {
+    let kept: Vec<usize> = (0..graph.nodes.len()).filter(|node| graph.nodes[*node].needed).collect();
+    if !graph.reached || kept.len() == graph.nodes.len() {
         return graph;
     }
-    let kept: Vec<usize> = (0..graph.nodes.len()).filter(|node| graph.nodes[*node].needed).collect();
-    let mut left = restrict(&graph, &kept);
-    let messages = if heard > 0 { format!(" and {}", counted(heard, "heard message", "heard messages")) } else { String::new() };
-    left.notes.retain(|note| !note.starts_with(PALE));
-    left.notes.push(format!("Left out: {}{messages} that the goal doesn't need.", counted(rungs, "rung", "rungs")));
-    left
+    Graph { notes: left_out(&graph.nodes, &graph.notes), ..restrict(&graph, &kept) }
 }
 
 // The verdict, then the goal, then how it came.
@@ -217,6 +191,7 @@ fn reached(mut maker: Maker, cut: usize, rungs: &[Rung]) -> Graph {
     let (sheet, heads) = (maker.sheet, maker.heads);
     let goal = heads.head[sheet.goal];
     let used = |head: usize| head == goal || rungs.iter().any(|rung| rung.sources.contains(&head));
+    maker.public(used);
     maker.hear(cut, used);
     let mut list = Vec::new();
     for (i, rung) in rungs.iter().enumerate() {
@@ -226,8 +201,7 @@ fn reached(mut maker: Maker, cut: usize, rungs: &[Rung]) -> Graph {
     }
     let mut nodes = maker.nodes;
     mark(&mut nodes, &mut list);
-    let unused = sheet.heard.iter().take(cut).filter(|entry| !used(heads.head[**entry])).count();
-    let notes = notes(&nodes, &list, unused, sheet.heard.len() - cut);
+    let notes = notes(&nodes, &list, &undrawn(sheet, heads, cut, used));
     let heard = counted(cut, "heard message", "heard messages");
     let (title, heading) = titles(sheet, "reached", &format!("after {heard}, in {}", counted(rungs.len(), "rung", "rungs")));
     Graph { nodes, edges: list, title, heading, notes, reached: true }
@@ -235,6 +209,7 @@ fn reached(mut maker: Maker, cut: usize, rungs: &[Rung]) -> Graph {
 
 fn missed(mut maker: Maker, known: usize) -> Graph {
     let (sheet, heads) = (maker.sheet, maker.heads);
+    maker.public(|_| true);
     maker.hear(sheet.heard.len(), |_| true);
     maker.node(Kind::Missed, sheet.goal);
     let heard = counted(sheet.heard.len(), "heard message", "heard messages");

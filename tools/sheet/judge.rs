@@ -1,11 +1,11 @@
-// A verdict in names: the first line says it in plain words, then a line a cut, the rungs, and which names are one term.
-// All of it comes from the library's call.
+// A verdict in names: the first line says it in plain words, then the public atoms if there are any, a line a cut, the rungs, and which
+// names are one term. All of it comes from the library's call.
 
 use super::bytes::{encode, refusal_word};
 use super::card::{Rule, Rung};
-use super::graph::counted;
-use super::model::Sheet;
-use super::verdict::{head_of_first, verdict, verdicts, Verdict};
+use super::model::{Sheet, ON_HULL_LABEL};
+use super::notes::{counted, public_atoms};
+use super::verdict::{gained_at_start, head_of_first, verdict, verdicts, Verdict};
 use std::collections::BTreeSet;
 
 pub struct Judged {
@@ -21,29 +21,44 @@ pub fn refused(number: u32) -> String {
     }
 }
 
-// The verdict of one cut in plain words.
-fn first_line(sheet: &Sheet, cut: usize, verdict: &Verdict) -> String {
+fn out_of_reach_line(sheet: &Sheet, public: &[usize], cut: usize) -> String {
     let (goal, all) = (sheet.heading(sheet.goal), sheet.heard.len());
-    let rungs = match verdict {
-        Verdict::OutOfReach { .. } => {
-            let from = match cut {
-                0 => "nothing heard".to_string(),
-                _ if cut < all => format!("the first {cut} of {all} heard messages"),
-                _ => format!("the {}", counted(all, "heard message", "heard messages")),
-            };
-            return format!("out of reach: no row of steps from {from} gains {goal}, through terms of any size\n");
-        }
-        Verdict::Reached(rungs) => rungs.len(),
+    let names = if public.is_empty() { String::new() } else { format!("the {} and ", public_atoms(public.len())) };
+    let heard = match cut {
+        0 => "nothing heard".to_string(),
+        _ if cut < all => format!("the first {cut} of {all} heard messages"),
+        _ => format!("the {}", counted(all, "heard message", "heard messages")),
     };
+    format!("out of reach: no row of steps from {names}{heard} gains {goal}, through terms of any size\n")
+}
+
+fn reached_line(sheet: &Sheet, public: &[usize], cut: usize, rungs: usize) -> String {
+    let (goal, all) = (sheet.heading(sheet.goal), sheet.heard.len());
     let who = match cut {
         0 if all == 0 => "who heard nothing".to_string(),
         0 => format!("who heard none of the {all} messages"),
         _ => format!("who heard the first {cut} of {all} messages"),
     };
-    match rungs {
-        0 => format!("reached: a listener {who} has {goal} without a step, since it was heard\n"),
-        _ => format!("reached: a listener {who} gains {goal} in {}\n", counted(rungs, "step", "steps")),
+    if rungs > 0 {
+        return format!("reached: a listener {who} gains {goal} in {}\n", counted(rungs, "step", "steps"));
     }
+    let shown = public.contains(&head(&sheet.without_public(), sheet.goal));
+    let why = if shown { format!("is {ON_HULL_LABEL}") } else { "was heard".to_string() };
+    format!("reached: a listener {who} has {goal} without a step, since it {why}\n")
+}
+
+// The verdict of one cut in plain words.
+fn first_line(sheet: &Sheet, public: &[usize], cut: usize, verdict: &Verdict) -> String {
+    match verdict {
+        Verdict::OutOfReach { .. } => out_of_reach_line(sheet, public, cut),
+        Verdict::Reached(rungs) => reached_line(sheet, public, cut, rungs.len()),
+    }
+}
+
+// The public atoms by name; nothing where the sheet has none.
+fn public_line(sheet: &Sheet, public: &[usize]) -> String {
+    let names: Vec<String> = public.iter().map(|entry| sheet.heading(*entry)).collect();
+    if names.is_empty() { String::new() } else { format!("{ON_HULL_LABEL}: {}\n", names.join(", ")) }
 }
 
 fn cut_line(sheet: &Sheet, cut: usize, verdict: &Verdict) -> String {
@@ -72,22 +87,25 @@ fn rung_line(sheet: &Sheet, rung: &Rung) -> String {
     format!("{} {words}{space}{}\n", sheet.label(rung.head), names.join(between))
 }
 
-// The lowest-numbered entry of the same term.
-fn head(sheet: &Sheet, entry: usize) -> usize {
-    let alone = Sheet { heard: vec![entry], ..sheet.clone() };
+// The lowest-numbered entry of the same term, in a sheet without public atoms.
+fn head(asked: &Sheet, entry: usize) -> usize {
+    let alone = Sheet { heard: vec![entry], ..asked.clone() };
     head_of_first(&encode(&alone)).unwrap_or(entry)
 }
 
-// The steps know each term under one name. A line for each other name of theirs and the goal's: among heard messages, the parts of
-// the entries that the steps name, and the goal.
-fn same_lines(sheet: &Sheet, cut: usize, rungs: &[Rung]) -> String {
+// Steps and public atoms are known under one name each. A line for each other name of theirs and the goal's: among public atoms, heard
+// messages, the parts of the entries that the steps name, and the goal.
+fn same_lines(sheet: &Sheet, public: &[usize], cut: usize, rungs: &[Rung]) -> String {
+    let asked = sheet.without_public();
     let mut shown: BTreeSet<usize> = rungs.iter().flat_map(|rung| rung.sources.iter().copied().chain([rung.head])).collect();
     let parts: Vec<usize> = shown.iter().filter_map(|entry| sheet.entries.get(*entry)).flat_map(|entry| entry.parts()).collect();
-    shown.insert(head(sheet, sheet.goal));
-    let named: BTreeSet<usize> = sheet.heard.iter().take(cut).copied().chain([sheet.goal]).chain(parts).collect();
+    shown.insert(head(&asked, sheet.goal));
+    shown.extend(public);
+    let again = (0..sheet.entries.len()).filter(|entry| public.iter().any(|head| sheet.entries.get(*head) == sheet.entries.get(*entry)));
+    let named: BTreeSet<usize> = again.chain(sheet.heard.iter().take(cut).copied()).chain([sheet.goal]).chain(parts).collect();
     let mut text = String::new();
     for entry in named {
-        let head = head(sheet, entry);
+        let head = head(&asked, entry);
         if head != entry && shown.contains(&head) {
             text += &format!("{} is the same term as {}\n", sheet.label(entry), sheet.label(head));
         }
@@ -112,12 +130,13 @@ pub fn judge(bytes: &[u8], sheet: &Sheet, cut: Option<u32>) -> Result<Judged, St
     let (first, list) = asked.map_err(|number| refused_cut(number, sheet, cut))?;
     let cut = first + list.len() - 1;
     let last = list.last().cloned().unwrap_or(Verdict::OutOfReach { known: 0 });
-    let mut text = first_line(sheet, cut, &last);
+    let public = gained_at_start(bytes);
+    let mut text = first_line(sheet, &public, cut, &last) + &public_line(sheet, &public);
     for (i, verdict) in list.iter().enumerate() {
         text += &cut_line(sheet, first + i, verdict);
     }
     let rungs = if let Verdict::Reached(rungs) = &last { &rungs[..] } else { &[] };
     rungs.iter().for_each(|rung| text += &rung_line(sheet, rung));
-    text += &same_lines(sheet, cut, rungs);
+    text += &same_lines(sheet, &public, cut, rungs);
     Ok(Judged { text, reached: matches!(last, Verdict::Reached(_)) })
 }

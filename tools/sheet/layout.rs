@@ -1,6 +1,6 @@
-// A layered layout, from left to right: the rank of a rung is its longest path from the heard messages, and a heard message stands
-// just before its first use. In a rank, heard messages keep their order. A line that passes a rank has a point there, shared by all
-// lines of the same source, so no line runs over a box.
+// A layered layout, from left to right: the rank of a rung is its longest path from the public atoms and heard messages, and such a start
+// stands just before its first use. In a rank, starts keep their order: public atoms, then heard messages. A line that passes a rank has
+// a point there, shared by all lines of the same source, so no line runs over a box.
 
 use super::graph::{Edge, Graph, Kind};
 
@@ -12,7 +12,8 @@ const SWEEPS: usize = 8;
 pub struct Cell {
     pub rank: usize,
     pub height: f64,
-    pub heard: bool,
+    // A public atom or a heard message.
+    pub start: bool,
     // The middle.
     pub y: f64,
 }
@@ -69,7 +70,7 @@ fn route(layout: &mut Layout, source: usize, edges: &[Edge]) {
         }
         if rank < last {
             let point = layout.cells.len();
-            layout.cells.push(Cell { rank, height: POINT, heard: false, y: 0.0 });
+            layout.cells.push(Cell { rank, height: POINT, start: false, y: 0.0 });
             layout.ranks[rank].push(point);
             layout.links.push(Link { from: at, to: point, key: false, needed: rank < last_needed });
             at = point;
@@ -128,8 +129,8 @@ fn crossings(layout: &Layout) -> usize {
     total
 }
 
-// Orders one rank by the mean position of the neighbours. Cells without any keep their place. Heard messages then share their
-// places out in the order heard, which is that of their numbers.
+// Orders one rank by the mean position of the neighbours. Cells without any keep their place. Starts then share their places out in their
+// order, which is that of their numbers.
 fn order(rank: &mut [usize], cells: &[Cell], neighbours: &[Vec<usize>], position: &mut [usize]) {
     let mean = |cell: usize| {
         let list = &neighbours[cell];
@@ -140,9 +141,9 @@ fn order(rank: &mut [usize], cells: &[Cell], neighbours: &[Vec<usize>], position
     };
     let mut keyed: Vec<(f64, usize)> = rank.iter().map(|cell| (mean(*cell), *cell)).collect();
     keyed.sort_by(|a, b| a.0.total_cmp(&b.0));
-    let mut heard: Vec<usize> = rank.iter().copied().filter(|cell| cells[*cell].heard).collect();
-    heard.sort_unstable_by(|a, b| b.cmp(a));
-    let ordered = keyed.into_iter().map(|(_, cell)| if cells[cell].heard { heard.pop().unwrap_or(cell) } else { cell });
+    let mut starts: Vec<usize> = rank.iter().copied().filter(|cell| cells[*cell].start).collect();
+    starts.sort_unstable_by(|a, b| b.cmp(a));
+    let ordered = keyed.into_iter().map(|(_, cell)| if cells[cell].start { starts.pop().unwrap_or(cell) } else { cell });
     for (i, cell) in ordered.enumerate() {
         rank[i] = cell;
         position[cell] = i;
@@ -239,8 +240,8 @@ pub fn ranked(graph: &Graph, heights: &[f64]) -> Layout {
     let count = rank.iter().max().map_or(0, |most| most + 1);
     let mut layout = Layout { cells: Vec::new(), links: Vec::new(), ranks: vec![Vec::new(); count] };
     for (i, height) in heights.iter().enumerate() {
-        let heard = matches!(graph.nodes[i].kind, Kind::Heard(_));
-        layout.cells.push(Cell { rank: rank[i], height: *height, heard, y: 0.0 });
+        let start = matches!(graph.nodes[i].kind, Kind::Public | Kind::Heard(_));
+        layout.cells.push(Cell { rank: rank[i], height: *height, start, y: 0.0 });
         layout.ranks[rank[i]].push(i);
     }
     for source in 0..graph.nodes.len() {

@@ -4,6 +4,12 @@ pub const MOST_ENTRIES: usize = 256;
 pub const MOST_HEARD: usize = 256;
 pub const MOST_ITEMS: usize = 64;
 
+// Atoms up to this number are public: they are the board's names on the hull label, and a listener has them without hearing anything.
+const LAST_PUBLIC: u16 = 255;
+
+// What is said of a public atom.
+pub const ON_HULL_LABEL: &str = "on the hull label";
+
 #[derive(Clone, Debug, PartialEq)]
 pub enum Entry {
     Zero,
@@ -31,6 +37,10 @@ impl Entry {
             Entry::Sum(items) => items.clone(),
         }
     }
+
+    pub fn is_public(&self) -> bool {
+        matches!(self, Entry::Atom(number) if *number <= LAST_PUBLIC)
+    }
 }
 
 impl Sheet {
@@ -48,5 +58,24 @@ impl Sheet {
             Some(Some(name)) => name.clone(),
             _ => format!("entry {entry}"),
         }
+    }
+
+    // The first entry that has the same record. For an atom it is the head: a sum that is an atom stands behind that atom.
+    fn first_like(&self, entry: &Entry) -> usize {
+        self.entries.iter().position(|other| other == entry).unwrap_or(0)
+    }
+
+    // The public atoms, each once, as its head, in rising order.
+    pub fn public(&self) -> Vec<usize> {
+        (0..self.entries.len()).filter(|i| self.entries[*i].is_public() && self.first_like(&self.entries[*i]) == *i).collect()
+    }
+
+    // The sheet with other numbers for its atoms, so that none is public. Atoms that were the same are the same, and no others.
+    pub fn without_public(&self) -> Sheet {
+        let renumbered = |entry: &Entry| match entry {
+            Entry::Atom(_) => Entry::Atom(LAST_PUBLIC + 1 + self.first_like(entry) as u16),
+            other => other.clone(),
+        };
+        Sheet { entries: self.entries.iter().map(renumbered).collect(), ..self.clone() }
     }
 }

@@ -1,6 +1,6 @@
-// A sheet as text: numbers as labels, and each compound term in short as a comment.
+// A sheet as text: numbers as labels, and as a comment each compound term in short, or that an atom is public.
 
-use super::model::{Entry, Sheet};
+use super::model::{Entry, Sheet, ON_HULL_LABEL};
 
 const COMMENT_WIDTH: usize = 56;
 const HEARD_A_LINE: usize = 16;
@@ -50,6 +50,7 @@ fn write_term(sheet: &Sheet, entry: usize, depth: usize, inner: bool, out: &mut 
 // The term in short, as deep as fits; nothing where the statement alone says as much.
 fn comment(sheet: &Sheet, entry: usize) -> Option<String> {
     match sheet.entries.get(entry)? {
+        atom if atom.is_public() => return Some(ON_HULL_LABEL.to_string()),
         Entry::Zero | Entry::Atom(_) => return None,
         Entry::Sum(items) if items.is_empty() => return None,
         _ => (),

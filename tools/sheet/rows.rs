@@ -1,5 +1,5 @@
-// A long ladder in parts, each small enough for a row of the picture. A part has some rungs that follow one another, the heard
-// messages that are first used there, and a small node for each source that stands in an earlier part.
+// A long ladder in parts, each small enough for a row of the picture. A part has some rungs that follow one another, the public atoms and
+// heard messages that are first used there, and a small node for each source that stands in an earlier part.
 
 use super::boxes::tag;
 use super::graph::{restrict, Graph, Kind};

@@ -1,5 +1,5 @@
-// The picture of a ladder as SVG: each rung a box, heard messages before their first use, lines from its sources, the goal in gold.
-// A picture that would be too wide or too tall is drawn in parts, row under row.
+// The picture of a ladder as SVG: each rung a box, public atoms and heard messages before their first use, lines from its sources, the goal
+// in gold. A picture that would be too wide or too tall is drawn in parts, row under row.
 
 use super::boxes::{draw, escape, size, spoken, Area};
 use super::graph::{Graph, Kind};
@@ -48,6 +48,12 @@ text.open-ink{fill:#a04a00}path.open-ink{stroke:#dd7a1f}
 text.join-ink{fill:#5d3fa3}path.join-ink{stroke:#8867d3}
 text.seal-ink{fill:#a12a5e}path.seal-ink{stroke:#d2558c}
 text.sum-ink{fill:#2c6e2f}path.sum-ink{stroke:#4f9f53}
+";
+
+// Only in pictures with a public atom.
+const PUBLIC_STYLE: &str = "\
+.public rect{fill:#e4e8ec;stroke:#5f6d7d}
+text.public-ink{fill:#3d4a5a}path.public-ink{stroke:#5f6d7d}
 ";
 
 // The left edge and the width of each rank's column, from 0 on.
@@ -111,7 +117,8 @@ fn frame(graph: &Graph, body: &str, width: f64, bottom: f64) -> String {
     let mut out = String::from("<svg xmlns=\"http://www.w3.org/2000/svg\" role=\"img\" aria-labelledby=\"title\" aria-describedby=\"told\"");
     out.push_str(&format!(" width=\"{width:.0}\" height=\"{height:.0}\" viewBox=\"0 0 {width:.0} {height:.0}\">\n"));
     out.push_str(&format!("<title id=\"title\">{}</title>\n<desc id=\"told\">{}</desc>\n", escape(&graph.title), escape(&told.join("; "))));
-    out.push_str(&format!("<style>\n{STYLE}</style>\n"));
+    let more = if graph.nodes.iter().any(|node| node.kind == Kind::Public) { PUBLIC_STYLE } else { "" };
+    out.push_str(&format!("<style>\n{STYLE}{more}</style>\n"));
     out.push_str(&format!("<rect class=\"paper\" x=\"0.5\" y=\"0.5\" width=\"{:.0}\" height=\"{:.0}\" rx=\"10\"/>\n", width - 1.0, height - 1.0));
     out.push_str(&format!("<text class=\"title\" x=\"{EDGE}\" y=\"42\">{}</text>\n{body}", escape(&heading)));
     for (i, note) in graph.notes.iter().enumerate() {
@@ -220,16 +227,16 @@ fn ladder(graph: &Graph) -> String {
     frame(&noted, &body, right + EDGE, bottom)
 }
 
-// Heard messages in columns, a wall, and the goal behind it.
+// Public atoms and heard messages in columns, a wall, and the goal behind it.
 fn apart(graph: &Graph) -> String {
     let sizes: Vec<(f64, f64)> = graph.nodes.iter().map(size).collect();
     let width = sizes.iter().map(|size| size.0).fold(0.0, f64::max);
     let height = sizes.iter().map(|size| size.1).fold(0.0, f64::max);
-    let heard = graph.nodes.iter().filter(|node| node.kind != Kind::Missed).count();
+    let starts = graph.nodes.iter().filter(|node| node.kind != Kind::Missed).count();
     let room = ((MOST_WIDTH - 2.0 * EDGE - width - 98.0) / (width + GAP)).max(1.0) as usize;
-    let square = ((heard as f64 * 1.6).sqrt().ceil() as usize).clamp(1, heard.max(1));
-    let rows = square.max((heard + room - 1) / room);
-    let shelves = (heard + rows - 1) / rows;
+    let square = ((starts as f64 * 1.6).sqrt().ceil() as usize).clamp(1, starts.max(1));
+    let rows = square.max((starts + room - 1) / room);
+    let shelves = (starts + rows - 1) / rows;
     let wall = EDGE + shelves as f64 * (width + GAP) + 40.0;
     let bottom = HEAD + (rows as f64 * (height + GAP) - GAP).max(120.0);
     let middle = (HEAD + bottom) / 2.0;
@@ -244,7 +251,7 @@ fn apart(graph: &Graph) -> String {
     let centre = wall + 58.0 + width / 2.0;
     let over = middle - height / 2.0 - 14.0;
     body.push_str(&format!("<text class=\"stop\" x=\"{centre:.1}\" y=\"{over:.1}\" text-anchor=\"middle\">out of reach</text>\n"));
-    if heard == 0 {
+    if starts == 0 {
         body.push_str(&format!("<text class=\"note\" x=\"{EDGE}\" y=\"{middle:.1}\">nothing heard</text>\n"));
     }
     frame(graph, &body, wall + 58.0 + width + EDGE, bottom)

@@ -58,7 +58,14 @@ pub fn verdict(sheet: &[u8], cut: u32) -> Result<Verdict, u32> {
     }
 }
 
-// The lowest-numbered entry of the same term as the first heard message: what a listener has gained who heard it and made no step.
+// What a listener has gained who heard nothing and made no step: the public atoms, each as its head, in rising order.
+pub fn gained_at_start(sheet: &[u8]) -> Vec<usize> {
+    let (answer, buffer) = call(sheet, 0, 0);
+    if answer < 1000 { vec![] } else { members(&buffer[..SET_BYTES]) }
+}
+
+// The lowest-numbered entry of the same term as the first heard message: what a listener has gained who heard it and made no step. The
+// sheet has no public atom; such an atom would be gained too.
 pub fn head_of_first(sheet: &[u8]) -> Option<usize> {
     let (answer, buffer) = call(sheet, 1, 0);
     if answer < 1000 { None } else { members(&buffer[..SET_BYTES]).first().copied() }
