@@ -4,7 +4,8 @@
 #include <stdio.h>
 #include <string.h>
 
-/* A term: its name, its kind, and how many numbers its record has. An atom has its own number; a pair, a seal and a sum have entry numbers. */
+/* A term: its name, its kind, and how many numbers its record has. An atom has its own number; a pair, a seal and a sum have entry numbers.
+ * Atoms 0 to 255 are the names on the hull label, which every listener has: a secret takes a higher number. */
 struct term {
     const char *name;
     uint8_t kind;
@@ -16,10 +17,10 @@ enum { KEY, PAD, MASKED_KEY, PLAN, SEALED_PLAN, ENTRIES };
 
 /* The key goes over the air summed with a pad, a plan is sealed under the key, and then the pad is sent open. */
 static const struct term terms[ENTRIES] = {
-    {"key", ZUWENDRYK_KIND_ATOM, 1, {7}},
-    {"pad", ZUWENDRYK_KIND_ATOM, 1, {9}},
+    {"key", ZUWENDRYK_KIND_ATOM, 1, {1007}},
+    {"pad", ZUWENDRYK_KIND_ATOM, 1, {1009}},
     {"masked key", ZUWENDRYK_KIND_SUM, 2, {KEY, PAD}},
-    {"plan", ZUWENDRYK_KIND_ATOM, 1, {12}},
+    {"plan", ZUWENDRYK_KIND_ATOM, 1, {1012}},
     {"sealed plan", ZUWENDRYK_KIND_SEAL, 2, {PLAN, KEY}},
 };
 static const uint16_t heard[] = {MASKED_KEY, SEALED_PLAN, PAD};
