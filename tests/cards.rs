@@ -1,4 +1,4 @@
-// Random good sheets, and the card of a sheet by the plain verdict. Shared by the tests of the tool.
+// Random good sheets with and without public atoms, and the card of a sheet by the plain verdict. Shared by the tests of the tool.
 
 use super::plain;
 use super::sheets::{random_entries, sheet, Entry, Random};
@@ -36,12 +36,27 @@ pub fn card_of(sheet: &[u8]) -> String {
     text
 }
 
+// Numbers on both sides of 255, the last one on the hull label.
+const ATOMS: [u16; 8] = [0, 1, 255, 256, 257, 1000, 1001, 65535];
+
+// The entries with four other numbers for their atoms, so that public atoms and others stand side by side. The same atoms stay the same.
+pub fn mixed(r: &mut Random, entries: Vec<Entry>) -> Vec<Entry> {
+    let drawn: Vec<u16> = (0..4).map(|_| ATOMS[r.below(8) as usize]).collect();
+    let mut seen: Vec<u16> = vec![];
+    let mut place = |number: u16| {
+        seen.extend((!seen.contains(&number)).then_some(number));
+        seen.iter().position(|other| *other == number).unwrap_or(0)
+    };
+    let renumbered = |entry| if let Entry::Atom(number) = entry { Entry::Atom(drawn[place(number) % 4]) } else { entry };
+    entries.into_iter().map(renumbered).collect()
+}
+
 // A good sheet with many entries, long sums and many heard messages.
 pub fn large(r: &mut Random) -> Vec<u8> {
     let n = 200 + r.below(57);
     let entries: Vec<Entry> = (0..n)
         .map(|i| match (i, r.below(4)) {
-            (0, _) | (_, 0) => Entry::Atom(r.below(65536) as u16),
+            (0, _) | (_, 0) => Entry::Atom(if r.below(8) == 0 { r.below(256) } else { 256 + r.below(65280) } as u16),
             (_, 1) => Entry::Pair(r.below(i) as u16, r.below(i) as u16),
             (_, 2) => Entry::Seal(r.below(i) as u16, r.below(i) as u16),
             _ => Entry::Sum((0..r.below(65)).map(|_| r.below(i) as u16).collect()),
@@ -54,5 +69,5 @@ pub fn large(r: &mut Random) -> Vec<u8> {
 pub fn random_sheet(r: &mut Random) -> Vec<u8> {
     let most = [3, 9, 20, 60][r.below(4) as usize];
     let (entries, heard, goal) = random_entries(r, most);
-    sheet(&entries, &heard, goal)
+    sheet(&mixed(r, entries), &heard, goal)
 }

@@ -66,11 +66,11 @@ impl Checks {
     }
 }
 
-const TEXT: &str = "key atom 7\nmask atom 9\nmasked sum key mask\nheard masked mask\ngoal key\n";
+const TEXT: &str = "key atom 1007\nmask atom 1009\nmasked sum key mask\nheard masked mask\ngoal key\n";
 
 // What TEXT assembles to.
 fn assembled() -> Vec<u8> {
-    let entries = vec![Entry::Atom(7), Entry::Atom(9), Entry::Sum(vec![0, 1])];
+    let entries = vec![Entry::Atom(1007), Entry::Atom(1009), Entry::Sum(vec![0, 1])];
     bytes::encode(&model::Sheet { names: vec![None; 3], entries, heard: vec![2, 1], goal: 0 })
 }
 
@@ -162,22 +162,22 @@ fn atoms_of(run: &Run) -> Vec<u16> {
 
 // Two names for one atom are noted on standard error, and the sheet is made all the same.
 fn notes(c: &mut Checks) {
-    c.file("twice", b"k1 atom 7\nm atom 8\n\n  k2 atom 7\nk3 atom 007\ngoal m\n");
-    let note = |file: &str, place: &str, name: &str| format!("{file}:{place}: note: \"{name}\" and \"k1\" (line 1) are one term, since both are atom 7");
+    c.file("twice", b"k1 atom 1007\nm atom 1008\n\n  k2 atom 1007\nk3 atom 001007\ngoal m\n");
+    let note = |file: &str, place: &str, name: &str| format!("{file}:{place}: note: \"{name}\" and \"k1\" (line 1) are one term, since both are atom 1007");
     for command in ["assemble", "judge", "draw"] {
         let run = c.shell(&format!("\"$sheet\" {command} twice"));
         let lines: Vec<&str> = run.err.lines().collect();
         let both = lines.len() == 2 && lines[0].starts_with(&note("twice", "4:3", "k2")) && lines[1].starts_with(&note("twice", "5:1", "k3"));
         c.check(&format!("{command} notes both names: {}", run.err), both && run.status == 0 && !run.out.is_empty());
     }
-    c.check("the atoms are as written", atoms_of(&c.shell("\"$sheet\" assemble twice")) == [7, 8, 7, 7]);
-    c.file("once", b"a atom 7\n1 atom 7\nb atom 8\n3 atom 8\n4 atom 7\ngoal a\n");
+    c.check("the atoms are as written", atoms_of(&c.shell("\"$sheet\" assemble twice")) == [1007, 1008, 1007, 1007]);
+    c.file("once", b"a atom 1007\n1 atom 1007\nb atom 1008\n3 atom 1008\n4 atom 1007\ngoal a\n");
     let run = c.shell("\"$sheet\" assemble once");
     c.check(&format!("an entry without a name isn't noted: {}", run.err), run.err.is_empty() && run.status == 0);
-    c.file("late", b"0 atom 7\na atom 7\nb atom 7\ngoal a\n");
+    c.file("late", b"0 atom 1007\na atom 1007\nb atom 1007\ngoal a\n");
     let run = c.shell("\"$sheet\" assemble late");
     c.check(&format!("names after a number: {}", run.err), run.err.starts_with("late:3:1: note: \"b\" and \"a\" (line 2) are one term"));
-    c.file("bad", b"k1 atom 7\nk2 atom 7\ngoal q\n");
+    c.file("bad", b"k1 atom 1007\nk2 atom 1007\ngoal q\n");
     c.fails("\"$sheet\" assemble bad", "bad:3:6: ");
 }
 
@@ -187,6 +187,7 @@ fn own_numbers(c: &mut Checks) {
         ("a atom\nb atom\ngoal a\n", vec![1000, 1001]),
         ("a atom\nb atom 1000\nc atom\nd atom 1002\ngoal a\n", vec![1001, 1000, 1003, 1002]),
         ("0 atom # no number\nx atom 5\n2 atom\ngoal x\n", vec![1000, 5, 1001]),
+        ("0 atom\nx atom 0\ny atom 255\nz atom 256\n4 atom\ngoal x\n", vec![1000, 0, 255, 256, 1001]),
     ];
     for (text, wanted) in cases {
         c.file("own", text.as_bytes());

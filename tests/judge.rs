@@ -1,15 +1,19 @@
 // The tool's verdicts in names. Every example is judged both ways, by the program's card and by `sheet judge`, and the two agree once
-// names are numbers again; the same on random sheets by the plain verdict. A card that lies is told apart.
+// names are numbers again; the same on random sheets by the plain verdict. A card that lies is told apart. The names on the hull label are told,
+// and don't spoil which names are one term.
 // Arguments: the tool, the program, and the repository's folder.
 
 #[allow(dead_code)] // each test uses a part
+mod cards;
+#[allow(dead_code)]
 mod plain;
 #[allow(dead_code)]
 mod sheets;
 mod tally;
 
+use cards::mixed;
 use sheets::{damage, random_entries, refusal, sheet, Entry, Random};
-use std::collections::HashMap;
+use std::collections::{BTreeSet, HashMap};
 use std::fs;
 use std::io::Write;
 use std::path::{Path, PathBuf};
@@ -110,50 +114,84 @@ fn named_cut(line: &str, names: &HashMap<String, usize>, heard: &[usize]) -> Opt
     }
 }
 
-// What `judge` said, after its first line. Lines that say which names are one term are left out.
-fn from_judge(text: &str, names: &HashMap<String, usize>, heard: &[usize]) -> Option<Said> {
+// A sheet as the test sees it: the numbers of its names, the heard list, the goal's name, and the public atoms' names.
+struct Asked {
+    names: HashMap<String, usize>,
+    heard: Vec<usize>,
+    goal: String,
+    public: Vec<String>,
+    goal_public: bool,
+}
+
+// What `judge` said, after its first lines. Lines that say which names are one term are left out.
+fn from_judge(lines: &[&str], asked: &Asked) -> Option<Said> {
     let mut said = Said { cuts: vec![], rungs: vec![] };
-    for line in text.lines().skip(1).filter(|line| !line.contains(" is the same term as ")) {
+    for line in lines.iter().filter(|line| !line.contains(" is the same term as ")) {
         match line.strip_prefix("cut ") {
-            Some(_) if said.rungs.is_empty() && line.contains(": ") => said.cuts.push(named_cut(line, names, heard)?),
-            _ => said.rungs.push(named_rung(line, names)?),
+            Some(_) if said.rungs.is_empty() && line.contains(": ") => said.cuts.push(named_cut(line, &asked.names, &asked.heard)?),
+            _ => said.rungs.push(named_rung(line, &asked.names)?),
         }
     }
     Some(said)
 }
 
 // The first line that the card's verdict asks for.
-fn first_line(said: &Said, goal: &str, heard: usize) -> String {
+fn first_line(said: &Said, asked: &Asked) -> String {
     let (cut, reached, count) = said.cuts.last().copied().unwrap_or((0, false, 0));
-    let steps = if count == 1 { "1 step".to_string() } else { format!("{count} steps") };
-    match (reached, cut) {
-        (false, 0) => format!("out of reach: no row of steps from nothing heard gains {goal}, through terms of any size"),
-        (false, 1) if heard == 1 => format!("out of reach: no row of steps from the 1 heard message gains {goal}, through terms of any size"),
-        (false, _) if cut == heard => format!("out of reach: no row of steps from the {cut} heard messages gains {goal}, through terms of any size"),
-        (false, _) => format!("out of reach: no row of steps from the first {cut} of {heard} heard messages gains {goal}, through terms of any size"),
-        (true, 0) if heard == 0 => format!("reached: a listener who heard nothing gains {goal} in {steps}"),
-        (true, 0) => format!("reached: a listener who heard none of the {heard} messages gains {goal} in {steps}"),
-        (true, _) if count == 0 => format!("reached: a listener who heard the first {cut} of {heard} messages has {goal} without a step, since it was heard"),
-        (true, _) => format!("reached: a listener who heard the first {cut} of {heard} messages gains {goal} in {steps}"),
+    let (goal, heard) = (&asked.goal, asked.heard.len());
+    let from = match cut {
+        0 => "nothing heard".to_string(),
+        1 if heard == 1 => "the 1 heard message".to_string(),
+        _ if cut == heard => format!("the {cut} heard messages"),
+        _ => format!("the first {cut} of {heard} heard messages"),
+    };
+    let who = match cut {
+        0 if heard == 0 => "a listener who heard nothing".to_string(),
+        0 => format!("a listener who heard none of the {heard} messages"),
+        _ => format!("a listener who heard the first {cut} of {heard} messages"),
+    };
+    match (reached, count, asked.public.len()) {
+        (false, _, 0) => format!("out of reach: no row of steps from {from} gains {goal}, through terms of any size"),
+        (false, _, 1) => format!("out of reach: no row of steps from the 1 atom on the hull label and {from} gains {goal}, through terms of any size"),
+        (false, _, n) => format!("out of reach: no row of steps from the {n} atoms on the hull label and {from} gains {goal}, through terms of any size"),
+        (true, 0, _) if asked.goal_public => format!("reached: {who} has {goal} without a step, since it is on the hull label"),
+        (true, 0, _) => format!("reached: {who} has {goal} without a step, since it was heard"),
+        (true, 1, _) => format!("reached: {who} gains {goal} in 1 step"),
+        (true, _, _) => format!("reached: {who} gains {goal} in {count} steps"),
     }
 }
 
-// Does a run of `judge` say what the card says, and end with its status?
-fn agrees(run: &Run, said: &Said, names: &HashMap<String, usize>, heard: &[usize], goal: &str) -> bool {
+// The lines that come before the cuts: the verdict, and the public atoms where there are any.
+fn first_lines(said: &Said, asked: &Asked) -> Vec<String> {
+    let public = (!asked.public.is_empty()).then(|| format!("on the hull label: {}", asked.public.join(", ")));
+    std::iter::once(first_line(said, asked)).chain(public).collect()
+}
+
+// Does a run of `judge` say what the card says, and end with its status? Its first line alone begins with a verdict.
+fn agrees(run: &Run, said: &Said, asked: &Asked) -> bool {
     let reached = said.cuts.last().map_or(false, |cut| cut.1);
-    let lines_end = run.out.ends_with('\n') && run.err.is_empty();
-    let first = run.out.lines().next() == Some(&first_line(said, goal, heard.len()));
-    lines_end && first && run.status == if reached { 3 } else { 0 } && from_judge(&run.out, names, heard).as_ref() == Some(said)
+    let (lines, first) = (run.out.lines().collect::<Vec<_>>(), first_lines(said, asked));
+    let verdict = |line: &&str| line.starts_with("reached:") || line.starts_with("out of reach:");
+    let one = lines.iter().filter(|line| verdict(line)).count() == 1;
+    let whole = run.out.ends_with('\n') && run.err.is_empty() && one && lines.len() >= first.len() && lines[..first.len()] == first;
+    whole && run.status == if reached { 3 } else { 0 } && from_judge(&lines[first.len()..], asked).as_ref() == Some(said)
 }
 
 // Lies about a verdict that is told truly: each changes the text or the status.
 fn lies(run: &Run) -> Vec<(&'static str, Run)> {
     let lines: Vec<&str> = run.out.lines().collect();
     let told = |lines: Vec<&str>| Run { out: lines.join("\n") + "\n", err: String::new(), status: run.status };
-    let rungs: Vec<usize> = (1..lines.len()).filter(|i| !lines[*i].starts_with("cut ") && !lines[*i].contains(" is the same ")).collect();
+    let no_rung = |line: &str| line.starts_with("cut ") || line.starts_with("on the hull label: ") || line.contains(" is the same ");
+    let rungs: Vec<usize> = (1..lines.len()).filter(|i| !no_rung(lines[*i])).collect();
+    let without = |start: &str| {
+        let left_out = lines.iter().position(|line| line.starts_with(start));
+        told(lines.iter().enumerate().filter(|(i, _)| Some(*i) != left_out).map(|(_, line)| *line).collect())
+    };
     let mut list = vec![
         ("another status", Run { out: run.out.clone(), err: String::new(), status: 3 - run.status }),
-        ("a cut left out", told(lines.iter().enumerate().filter(|(i, _)| *i != 1).map(|(_, line)| *line).collect())),
+        ("a cut left out", without("cut ")),
+        ("the hull label left out", without("on the hull label: ")),
+        ("another name on the hull label", Run { out: run.out.replacen(" label: ", " label: not_", 1), err: String::new(), status: run.status }),
         ("another known", Run { out: run.out.replacen(" known", "1 known", 1), err: String::new(), status: run.status }),
         ("another message", Run { out: run.out.replacen(" after ", " after not_", 1), err: String::new(), status: run.status }),
         ("the other verdict", Run { out: run.out.replacen("reached: ", "out of reach: ", 1), err: String::new(), status: run.status }),
@@ -174,18 +212,22 @@ struct Paths {
     dir: PathBuf,
 }
 
-// The heard list and the goal's name as the text has them.
-fn heard_and_goal(text: &str, names: &HashMap<String, usize>) -> (Vec<usize>, String) {
-    let (mut heard, mut goal) = (vec![], String::new());
+// The sheet as its text has it. No atom of an example stands there twice, and a goal that is public is an atom itself.
+fn asked(text: &str) -> Asked {
+    let names = names(text);
+    let mut asked = Asked { names, heard: vec![], goal: String::new(), public: vec![], goal_public: false };
+    let heading = |name: &str| if number(Some(name)).is_some() { format!("entry {name}") } else { name.to_string() };
     for line in text.lines() {
         let words: Vec<&str> = line.split('#').next().unwrap_or("").split_whitespace().collect();
         match words[..] {
-            ["heard", ..] => heard.extend(words[1..].iter().filter_map(|name| names.get(*name))),
-            ["goal", name] => goal = if number(Some(name)).is_some() { format!("entry {name}") } else { name.to_string() },
+            ["heard", ..] => asked.heard.extend(words[1..].iter().filter_map(|name| asked.names.get(*name))),
+            ["goal", name] => asked.goal = heading(name),
+            [name, "atom", atom] if number(Some(atom)).map_or(false, |atom| atom < 256) => asked.public.push(heading(name)),
             _ => (),
         }
     }
-    (heard, goal)
+    asked.goal_public = asked.public.contains(&asked.goal);
+    asked
 }
 
 fn example(c: &mut Tally, p: &Paths, path: &Path) {
@@ -195,14 +237,13 @@ fn example(c: &mut Tally, p: &Paths, path: &Path) {
     let made = run(&p.tool, &["assemble", &name, "-o", &assembled.to_string_lossy()], b"");
     c.check(&format!("{name} assembles without a note: {}", made.err), made.status == 0 && made.err.is_empty());
     let card = run(&p.program, &[], &fs::read(&assembled).unwrap_or_default()).out;
-    let names = names(&text);
-    let (heard, goal) = heard_and_goal(&text, &names);
+    let asked = asked(&text);
     let said = from_card(&card).unwrap_or(Said { cuts: vec![], rungs: vec![] });
     c.check(&format!("{name} has a card"), !said.cuts.is_empty() && said.rungs.len() == said.cuts.last().map_or(0, |cut| if cut.1 { cut.2 } else { 0 }));
     let judged = run(&p.tool, &["judge", &name], b"");
-    c.check(&format!("{name}, judged:\n{}the card:\n{card}", judged.out), agrees(&judged, &said, &names, &heard, &goal));
+    c.check(&format!("{name}, judged:\n{}the card:\n{card}", judged.out), agrees(&judged, &said, &asked));
     for (lie, told) in lies(&judged) {
-        c.check(&format!("{name}, a lie that passes: {lie}\n{}", told.out), !agrees(&told, &said, &names, &heard, &goal));
+        c.check(&format!("{name}, a lie that passes: {lie}\n{}", told.out), !agrees(&told, &said, &asked));
     }
     let piped = run(&p.tool, &["judge"], text.as_bytes());
     c.check(&format!("{name} from standard input"), piped.out == judged.out && piped.status == judged.status);
@@ -216,7 +257,7 @@ fn examples(c: &mut Tally, p: &Paths) {
     let files = fs::read_dir(p.root.join("examples")).expect("the examples are there").filter_map(|file| Some(file.ok()?.path()));
     let mut sheets: Vec<PathBuf> = files.filter(|path| path.extension().map_or(false, |end| end == "sheet")).collect();
     sheets.sort();
-    c.check("the examples are there", sheets.len() >= 25);
+    c.check("the examples are there", sheets.len() >= 27);
     sheets.iter().for_each(|path| example(c, p, path));
 }
 
@@ -241,32 +282,58 @@ fn plainly(bytes: &[u8], cut: u32) -> Said {
     Said { cuts: vec![(cut as usize, true, made)], rungs: buffer[32..].chunks(40).take(made).map(rung).collect() }
 }
 
-// Whoever hears the one entry has the other without a step, by the plain verdict. Gives the number of lines that say so.
-fn same_lines(c: &mut Tally, entries: &[Entry], text: &str) -> usize {
-    let pairs = text.lines().filter_map(|line| line.split_once(" is the same term as "));
-    let pairs: Vec<(u16, u16)> = pairs.filter_map(|(one, other)| Some((one.parse().ok()?, other.parse().ok()?))).collect();
-    for (one, other) in &pairs {
-        let answer = plain::verdict(&sheet(entries, &[*one], *other), 1, 0, &mut [0; 32]);
-        c.check(&format!("{entries:?}: {one} is the same term as {other}"), one > other && answer == 1000);
-    }
-    pairs.len()
+// The head of each entry, by the plain verdict on a sheet whose atoms are over 255: the lowest entry that a listener who heard the one has
+// without a step.
+fn heads(entries: &[Entry]) -> Vec<usize> {
+    let numbers: BTreeSet<u16> = entries.iter().filter_map(|entry| if let Entry::Atom(number) = entry { Some(*number) } else { None }).collect();
+    let place = |number: &u16| numbers.range(..*number).count() as u16;
+    let raise = |entry: &Entry| if let Entry::Atom(number) = entry { Entry::Atom(5000 - place(number)) } else { entry.clone() };
+    let raised: Vec<Entry> = entries.iter().map(raise).collect();
+    let same = |one: u16, other: u16| plain::verdict(&sheet(&raised, &[one], other), 1, 0, &mut [0; 32]) == 1000;
+    (0..entries.len() as u16).map(|one| usize::from((0..=one).find(|other| same(one, *other)).unwrap_or(one))).collect()
 }
 
-// Sheets as bytes, each at each cut, and the refusals of damaged ones.
+// The lines that say which names are one term: for public atoms, messages before the cut, the goal and the parts of what the steps name,
+// where the head is a public atom, the goal's, or named in a step.
+fn same_lines(entries: &[Entry], heads: &[usize], before: &[usize], goal: usize, said: &Said) -> Vec<String> {
+    let parts = |entry: &usize| match &entries[*entry] {
+        Entry::Pair(one, other) | Entry::Seal(one, other) => vec![usize::from(*one), usize::from(*other)],
+        Entry::Sum(items) => items.iter().map(|item| usize::from(*item)).collect(),
+        _ => vec![],
+    };
+    let in_steps: BTreeSet<usize> = said.rungs.iter().flat_map(|rung| rung[2..].iter().copied().chain([rung[0]])).collect();
+    let public: Vec<usize> = (0..entries.len()).filter(|i| matches!(entries[*i], Entry::Atom(0..=255))).collect();
+    let named: BTreeSet<usize> = in_steps.iter().flat_map(parts).chain(before.iter().copied()).chain(public.iter().copied()).chain([goal]).collect();
+    let shown = |head: usize| in_steps.contains(&head) || public.contains(&head) || head == heads[goal];
+    let other = named.into_iter().filter(|entry| heads[*entry] != *entry && shown(heads[*entry]));
+    other.map(|entry| format!("{entry} is the same term as {}", heads[entry])).collect()
+}
+
+// Sheets as bytes with public atoms and others, each at each cut, and the refusals of damaged ones.
 fn random_sheets(c: &mut Tally, p: &Paths) {
     let mut r = Random(0x6a09e667f3bcc909);
-    let mut same = 0;
-    for _ in 0..40 {
+    let (mut same, mut public, mut no_step) = (0, 0, 0);
+    for _ in 0..100 {
         let (entries, heard, goal) = random_entries(&mut r, 24);
-        let bytes = sheet(&entries, &heard, goal);
+        let entries = mixed(&mut r, entries);
+        let (bytes, heads) = (sheet(&entries, &heard, goal), heads(&entries));
         let names: HashMap<String, usize> = (0..entries.len()).map(|i| (i.to_string(), i)).collect();
         let heard: Vec<usize> = heard.iter().map(|entry| usize::from(*entry)).collect();
-        for cut in 0..=heard.len() as u32 {
+        let goal = usize::from(goal);
+        let first: Vec<usize> = (0..entries.len()).filter(|i| heads[*i] == *i && matches!(entries[*i], Entry::Atom(0..=255))).collect();
+        let (goal_public, list) = (first.contains(&heads[goal]), first.iter().map(|entry| format!("entry {entry}")).collect());
+        let asked = Asked { names, heard, goal: format!("entry {goal}"), public: list, goal_public };
+        for cut in 0..=asked.heard.len() {
             let judged = run(&p.tool, &["judge", "-", "--cut", &cut.to_string()], &bytes);
-            let said = plainly(&bytes, cut);
-            c.check(&format!("{entries:?} at cut {cut}:\n{}", judged.out), agrees(&judged, &said, &names, &heard, &format!("entry {goal}")));
-            same += same_lines(c, &entries, &judged.out);
+            let said = plainly(&bytes, cut as u32);
+            c.check(&format!("{entries:?} at cut {cut}:\n{}", judged.out), agrees(&judged, &said, &asked));
+            let lines: Vec<&str> = judged.out.lines().filter(|line| line.contains(" is the same term as ")).collect();
+            let wanted = same_lines(&entries, &heads, &asked.heard[..cut], goal, &said);
+            c.check(&format!("{entries:?} at cut {cut}, names of one term: {lines:?}, wanted {wanted:?}"), lines == wanted);
+            same += lines.len();
         }
+        public += asked.public.len();
+        no_step += usize::from(goal_public);
         let hurt = damage(&mut r, bytes);
         if hurt.starts_with(b"SHT1") && refusal(&hurt) > 0 {
             let judged = run(&p.tool, &["judge"], &hurt);
@@ -274,18 +341,77 @@ fn random_sheets(c: &mut Tally, p: &Paths) {
             c.check(&format!("a refused sheet: {}", judged.err), judged.status == 1 && judged.out.is_empty() && said);
         }
     }
-    c.check("some names are of one term", same > 20);
+    c.check(&format!("{same} names of one term, {public} public atoms, {no_step} public goals"), same > 100 && public > 30 && no_step > 3);
+}
+
+// What is said of the names on the hull label, word for word.
+fn public_lines(c: &mut Tally, p: &Paths) {
+    let two = "k atom\nboard atom 255\nsign atom 0\nbox seal k k\nheard box box box\ngoal k\n";
+    let one = two.replace("255", "256");
+    let (near, far, size) = ("reached: a listener who", "out of reach: no row of steps from", "gains k, through terms of any size");
+    let (on, free, first) = ("on the hull label", "without a step, since it", "the first 1 of 2 messages");
+    let cases: [(&str, u32, String, &str, &str); 6] = [
+        ("name atom 5\ngoal name\n", 0, format!("{near} heard nothing has name {free} is {on}"), "name", "before any message: reached, 0 steps"),
+        ("0 atom 5\nheard 0 0\ngoal 0\n", 1, format!("{near} heard {first} has entry 0 {free} is {on}"), "entry 0", "after entry 0: reached, 0 steps"),
+        ("a atom 256\nb atom 255\nheard a b\ngoal a\n", 1, format!("{near} heard {first} has a {free} was heard"), "b", "after a: reached, 0 steps"),
+        (two, 0, format!("{far} the 2 atoms {on} and nothing heard {size}"), "board, sign", "before any message: out of reach, 2 known"),
+        (two, 1, format!("{far} the 2 atoms {on} and the first 1 of 3 heard messages {size}"), "board, sign", "after box: out of reach, 3 known"),
+        (&one, 3, format!("{far} the 1 atom {on} and the 3 heard messages {size}"), "sign", "after box: out of reach, 2 known"),
+    ];
+    for (text, cut, first, names, then) in cases {
+        let judged = run(&p.tool, &["judge", "--cut", &cut.to_string()], text.as_bytes());
+        let wanted = format!("{first}\non the hull label: {names}\ncut {cut} {then}\n");
+        let status = if first.starts_with("reached") { 3 } else { 0 };
+        c.check(&format!("{text:?} at cut {cut}:\n{}wanted\n{wanted}", judged.out), judged.out == wanted && judged.status == status && judged.err.is_empty());
+    }
+    let plain = run(&p.tool, &["judge"], two.replace("255", "256").replace("atom 0", "atom 1000").as_bytes());
+    c.check("a sheet without them says nothing of them", !plain.out.contains("hull") && plain.out.starts_with(&format!("{far} the 3 heard messages {size}\n")));
+}
+
+// A key masked with a name on the hull label, in every order of the messages. The steps are the same, and so are the names of one term.
+fn public_orders(c: &mut Tally, p: &Paths) {
+    let text = "key atom 1007\nsign atom 18\nplan atom 1012\nmasked sum key sign\nframe seal plan key\n5 atom 18\n6 sum 5 plan plan\nheard HEARD\ngoal plan\n";
+    let steps = "key sum of sign, masked\nplan open frame with key\n5 is the same term as sign\n6 is the same term as sign\n";
+    for order in ["masked frame 6", "masked 6 frame", "frame masked 6", "frame 6 masked", "6 masked frame", "6 frame masked"] {
+        let judged = run(&p.tool, &["judge", "--cut", "3"], text.replace("HEARD", order).as_bytes());
+        let last = order.split(' ').last().map(|name| if name == "6" { "entry 6" } else { name }).unwrap_or("");
+        let first = "reached: a listener who heard the first 3 of 3 messages gains plan in 2 steps";
+        let wanted = format!("{first}\non the hull label: sign\ncut 3 after {last}: reached, 2 steps\n{steps}");
+        c.check(&format!("heard {order}:\n{}wanted\n{wanted}", judged.out), judged.out == wanted && judged.status == 3);
+    }
+}
+
+// Which names are one term, on sheets with atoms at both ends of both ranges.
+fn public_heads(c: &mut Tally, p: &Paths) {
+    let atoms = "a atom 0\nb atom 255\nc atom 256\nd atom 1000\ne atom 65535\n5 atom 255\n6 atom 1000\n7 atom 65535\n8 atom 0\nz zero\n";
+    let text = format!("{atoms}s sum 5 z\nt sum 6 z\nu sum 7 z\nv sum 8 c c\nheard s t c v\n");
+    let public = ["5 is the same term as b", "8 is the same term as a"];
+    let (s, t, v) = ("s is the same term as b", "t is the same term as d", "v is the same term as a");
+    let cases: [(&str, &str, Vec<&str>); 6] = [
+        ("c", "4", vec![public[0], public[1], s, v]),
+        ("e", "4", vec![public[0], public[1], s, v]),
+        ("u", "4", vec![public[0], public[1], s, "u is the same term as e", v]),
+        ("t", "2", vec![public[0], public[1], s, t]),
+        ("v", "0", vec![public[0], public[1], v]),
+        ("6", "2", vec![public[0], "6 is the same term as d", public[1], s, t]),
+    ];
+    for (goal, cut, wanted) in cases {
+        let judged = run(&p.tool, &["judge", "--cut", cut], format!("{text}goal {goal}\n").as_bytes());
+        let lines: Vec<&str> = judged.out.lines().filter(|line| line.contains(" is the same term as ")).collect();
+        let label = judged.out.lines().nth(1) == Some("on the hull label: a, b");
+        c.check(&format!("goal {goal} at cut {cut}:\n{}wanted {wanted:?}", judged.out), lines == wanted && label);
+    }
 }
 
 fn statuses(c: &mut Tally, p: &Paths) {
-    let text = "k atom 7\nm atom 9\nbox seal m k\nagain pair m k\nother pair m k\nheard box k other\ngoal m\n";
+    let text = "k atom 1007\nm atom 1009\nbox seal m k\nagain pair m k\nother pair m k\nheard box k other\ngoal m\n";
     let cases: [(&[&str], &str, i32, &str, &str); 9] = [
         (&["judge"], text, 3, "reached: a listener who heard the first 2 of 3 messages gains m in 1 step\n", ""),
         (&["judge", "--cut", "1"], text, 0, "out of reach: no row of steps from the first 1 of 3 heard messages gains m, ", ""),
         (&["judge", "--cut", "3"], text, 3, "reached: a listener who heard the first 3 of 3 messages gains m in 1 step\n", ""),
         (&["judge", "--cut", "4"], text, 1, "", "<stdin>: refused 8 (past the log): --cut 4, and 3 messages were heard\n"),
         (&["judge", "--cut", "4294967295"], text, 1, "", "<stdin>: refused 8 (past the log)"),
-        (&["judge"], "k atom 7\ngoal q\n", 1, "", "<stdin>:2:6: "),
+        (&["judge"], "k atom 1007\ngoal q\n", 1, "", "<stdin>:2:6: "),
         (&["judge", "--cut", "-1"], text, 2, "", "sheet: --cut -1: expected a number"),
         (&["judge", "--cut"], text, 2, "", "sheet: --cut is the last word"),
         (&["judge", "--cut", "1", "--cut", "1"], text, 2, "", "sheet: --cut is given twice"),
@@ -307,7 +433,7 @@ fn statuses(c: &mut Tally, p: &Paths) {
 // Every form of a rung's line.
 fn forms(c: &mut Tally, p: &Paths) {
     use Entry::*;
-    let first = [Atom(1), Atom(2), Pair(1, 0), Pair(2, 2), Seal(3, 0), Sum(vec![0, 1]), Pair(4, 5), Seal(6, 1)];
+    let first = [Atom(1001), Atom(1002), Pair(1, 0), Pair(2, 2), Seal(3, 0), Sum(vec![0, 1]), Pair(4, 5), Seal(6, 1)];
     let bytes = sheet(&[&first[..], &[Zero, Pair(0, 0), Pair(9, 8), Pair(10, 7)]].concat(), &[4, 0], 11);
     let judged = run(&p.tool, &["judge", "--cut", "2"], &bytes);
     let wanted = ["3 open 4 with 0", "2 split left 3", "1 split left 2", "5 sum of 0, 1", "6 join 4, 5", "7 seal 6 under 1", "8 sum of nothing", "9 join 0, 0"];
@@ -319,10 +445,11 @@ fn forms(c: &mut Tally, p: &Paths) {
 // What examples/README.md shows is what is printed.
 fn shown(c: &mut Tally, p: &Paths) {
     let readme = fs::read_to_string(p.root.join("examples/README.md")).unwrap_or_default();
-    let block = readme.split("```text\n").nth(1).and_then(|rest| rest.split("```").next()).unwrap_or("");
-    let name = p.root.join("examples/nsl-xor-calls.sheet");
-    let judged = run(&p.tool, &["judge", &name.to_string_lossy()], b"");
-    c.check(&format!("examples/README.md shows\n{block}"), judged.out == block);
+    for (i, name) in ["examples/nsl-xor-calls.sheet", "examples/hull-label.sheet"].iter().enumerate() {
+        let block = readme.split("```text\n").nth(i + 1).and_then(|rest| rest.split("```").next()).unwrap_or("");
+        let judged = run(&p.tool, &["judge", &p.root.join(name).to_string_lossy()], b"");
+        c.check(&format!("examples/README.md shows for {name}\n{block}"), judged.out == block);
+    }
 }
 
 // The version is the C header's, where the header has one.
@@ -346,6 +473,9 @@ fn main() {
     let mut c = Tally::default();
     examples(&mut c, &p);
     random_sheets(&mut c, &p);
+    public_lines(&mut c, &p);
+    public_orders(&mut c, &p);
+    public_heads(&mut c, &p);
     statuses(&mut c, &p);
     forms(&mut c, &p);
     shown(&mut c, &p);

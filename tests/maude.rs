@@ -6,9 +6,14 @@
 // Needs `maude` on the path. Not part of the gate: it measures, and fails only when verdicts differ.
 
 #[allow(dead_code)]
-mod sheets;
+mod cards;
 #[allow(dead_code)]
 mod kinds;
+#[allow(dead_code)]
+mod plain;
+#[allow(dead_code)]
+mod sheets;
+use cards::mixed;
 use kinds::Parts;
 use sheets::{random_entries, sheet, Entry, Random};
 use std::fs::{create_dir_all, write};
@@ -24,8 +29,8 @@ const LIMIT: Duration = Duration::from_secs(10);
 const FOLDER: &str = "target/maude";
 const FORMS: [&str; 3] = ["search", "rewrite", "eliminate"];
 
-// Terms, sets of terms, and the rules but for sums. `st(K, W, G)`: the known terms, the sheet's terms not known yet, and the goal. Each rule moves
-// a term from W to K. A sum is flat and has no zero in it, because zero is the identity; Maude applies B + B = zero to any two of its parts.
+// Terms, sets of terms, and the rules but for sums. `st(K, W, G)`: the known terms, the sheet's terms not known yet, and the goal. At the start the
+// public atoms and the heard messages are known. Each rule moves a term from W to K. A sum is flat and has no zero in it, because zero is the identity; Maude applies B + B = zero to any two of its parts.
 const RULES: &str = "
   sorts Base Term Set State .
   subsorts Base < Term < Set .
@@ -102,7 +107,9 @@ fn declarations(entries: &[Entry]) -> String {
 fn module((entries, heard, goal): &Parts, form: &str) -> String {
     let sum = if form == "eliminate" { SUM_BY_ELIMINATION } else { SUM_BY_SEARCH };
     let all: Vec<u16> = (0..entries.len() as u16).collect();
-    let start = format!("st({}, {}, e{goal})", list(heard, " ; ", "none"), list(&all, " ; ", "none"));
+    let public = all.iter().copied().filter(|e| matches!(entries[usize::from(*e)], Entry::Atom(0..=255)));
+    let known: Vec<u16> = public.chain(heard.iter().copied()).collect();
+    let start = format!("st({}, {}, e{goal})", list(&known, " ; ", "none"), list(&all, " ; ", "none"));
     let question = if form == "search" { format!("search [1] {start} =>* reached .") } else { format!("rewrite {start} .") };
     let head = "set print conceal on .\nmod SHEET is";
     format!("{head}{RULES}{sum}{}endm\nprint conceal st .\n{question}\nquit\n", declarations(entries))
@@ -217,7 +224,8 @@ fn row(kind: &str, parts: &Parts, late: &mut [bool; 3]) -> usize {
 fn agreement(sheets: usize) -> usize {
     let (mut r, mut reached, mut late, mut wrong) = (Random(2026), 0, 0, 0);
     for i in 0..sheets {
-        let parts = random_entries(&mut r, 10);
+        let (entries, heard, goal) = random_entries(&mut r, 10);
+        let parts = (mixed(&mut r, entries), heard, goal);
         let (answer, _) = library(&parts);
         reached += (answer < 2000) as usize;
         for form in FORMS {

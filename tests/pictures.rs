@@ -1,5 +1,5 @@
-// The tool's pictures: a box a rung and a line a source, nothing over anything, no wider than a browser's window, heard messages in
-// order and beside their first use; cards that are wrong or damaged give none. The tool's path is the first argument.
+// The tool's pictures: a box a rung and a line a source, nothing over anything, no wider than a browser's window, public atoms and heard
+// messages in order and beside their first use; cards that are wrong or damaged give none. The tool's path is the first argument.
 
 mod cards;
 mod plain;
@@ -22,8 +22,11 @@ mod graph;
 mod heads;
 #[path = "../tools/sheet/layout.rs"]
 mod layout;
+#[allow(dead_code)]
 #[path = "../tools/sheet/model.rs"]
 mod model;
+#[path = "../tools/sheet/notes.rs"]
+mod notes;
 #[path = "../tools/sheet/rows.rs"]
 mod rows;
 #[path = "../tools/sheet/short.rs"]
@@ -64,7 +67,7 @@ impl Checks {
     }
 }
 
-const TEXT_A: &str = "key atom 7\nmask atom 9\nmasked sum key mask\nsession atom 12\nbox seal session key\nheard masked box mask\ngoal session\n";
+const TEXT_A: &str = "key atom 1007\nmask atom 1009\nmasked sum key mask\nsession atom 1012\nbox seal session key\nheard masked box mask\ngoal session\n";
 
 // Tags are balanced, attributes quoted, and every & begins an entity.
 fn well_formed(text: &str) -> bool {
@@ -149,7 +152,46 @@ fn shows(c: &mut Checks, picture: &str, card: &str) {
     c.check("a line a source", picture.matches("<path class=\"tip").count() == sources(card));
     let width = picture.split(" width=\"").nth(1).and_then(|rest| rest.split('"').next()?.parse::<f64>().ok());
     c.check(&format!("{width:?} is no wider than a window"), width.map_or(false, |width| width <= MOST_WIDTH));
-    heard_boxes(c, picture, &rungs);
+    start_boxes(c, picture, &rungs);
+}
+
+// The heads that are public, by another way than the tool's: a list of the numbers seen so far. Then the different heads that were heard
+// before the cut and aren't public. For each only what a picture draws: what a rung uses and the goal, or everything where it is out of reach.
+fn starts(bytes: &[u8], card: &str) -> (Vec<usize>, Vec<usize>) {
+    let sheet = bytes::decode(bytes).expect("a good sheet");
+    let heads = heads::Heads::of(&sheet).head;
+    let mut seen: Vec<u16> = vec![];
+    let mut first = |entry: &model::Entry| match entry {
+        model::Entry::Atom(number) if *number < 256 && !seen.contains(number) => {
+            seen.push(*number);
+            true
+        }
+        _ => false,
+    };
+    let public: Vec<usize> = (0..heads.len()).filter(|i| first(&sheet.entries[*i])).collect();
+    let reached = card.contains(" reached ");
+    let rungs = card.lines().filter(|line| line.starts_with("rung "));
+    let sources: BTreeSet<usize> = rungs.flat_map(|line| line.split(' ').skip(3)).filter_map(|word| word.parse().ok()).collect();
+    let drawn = |head: &usize| !reached || *head == heads[sheet.goal] || sources.contains(head);
+    let cut = card.matches("cut ").count() - 1;
+    let heard: BTreeSet<usize> = sheet.heard.iter().take(cut).map(|entry| heads[*entry]).filter(|head| !public.contains(head) && drawn(head)).collect();
+    (public.into_iter().filter(|head| drawn(head)).collect(), heard.into_iter().collect())
+}
+
+// A public atom has one box, which says so, also where it was heard; a heard message that isn't public has another.
+fn shows_starts(c: &mut Checks, svg: &str, dot: &str, bytes: &[u8], card: &str) -> usize {
+    let (public, heard) = starts(bytes, card);
+    c.check(&format!("{public:?} are public in\n{svg}"), svg.matches("<g class=\"public").count() == public.len());
+    c.check(&format!("{heard:?} were heard"), svg.matches("<g class=\"heard").count() == heard.len());
+    for (i, head) in public.iter().enumerate() {
+        c.check("a public atom's box", svg.matches(&format!("<title>on the hull label: entry {head} ")).count() == 1);
+        let line = dot.lines().find(|line| line.starts_with(&format!("  n{i} [")));
+        let parts = ["[label=\"on the hull label".to_string(), format!("\\nentry {head}\\n"), "style=filled,".to_string()];
+        c.check(&format!("a public atom's node comes first: {line:?}"), line.map_or(false, |line| parts.iter().all(|part| line.contains(part))));
+    }
+    c.check("no other node is public", dot.matches("[label=\"on the hull label").count() == public.len());
+    c.check("the style of public atoms", svg.contains("\n.public rect{") != public.is_empty());
+    public.len()
 }
 
 // The boxes of one part: the tag of each, and its left and upper edge.
@@ -163,25 +205,30 @@ fn boxes_of(part: &str) -> Vec<(String, f64, f64)> {
     groups.filter_map(one).collect()
 }
 
-// In a column, heard messages stand in the order heard; and each stands in the column before its first use.
-fn heard_boxes(c: &mut Checks, picture: &str, rungs: &[&str]) {
-    let place = |told: &str| told.strip_prefix("heard ")?.split([',', ':', ' ']).next()?.parse::<usize>().ok().filter(|_| !told.contains(" times"));
+// In a column, public atoms stand in the order of their entries, and heard messages after them in the order heard; and each stands just
+// before the first column that uses it.
+fn start_boxes(c: &mut Checks, picture: &str, rungs: &[&str]) {
+    let heard = |told: &str| told.strip_prefix("heard ")?.split([',', ':', ' ']).next()?.parse::<usize>().ok().filter(|_| !told.contains(" times"));
+    let public = |told: &str| told.strip_prefix("on the hull label: entry ")?.split([' ', ':']).next()?.parse::<usize>().ok();
+    let place = |told: &str| public(told).map(|entry| (0, entry)).or_else(|| heard(told).map(|place| (1, place)));
     let entry = |told: &str| told.split("entry ").nth(1).and_then(|rest| rest.split([' ', ':']).next()).map(str::to_string);
     let segments: Vec<&str> = picture.split("<rect class=\"panel\"").collect();
     for part in segments {
         let boxes = boxes_of(part);
-        let heard: Vec<(usize, f64, f64)> = boxes.iter().filter(|one| !one.0.contains(", earlier:")).filter_map(|one| Some((place(&one.0)?, one.1, one.2))).collect();
-        let ordered = heard.iter().all(|a| heard.iter().all(|b| a.1 != b.1 || (a.0 < b.0) == (a.2 < b.2)));
-        c.check("heard messages are in order", ordered);
+        let whole = boxes.iter().filter(|one| !one.0.contains(", earlier:"));
+        let starts: Vec<((u8, usize), f64, f64)> = whole.filter_map(|one| Some((place(&one.0)?, one.1, one.2))).collect();
+        let ordered = starts.iter().all(|a| starts.iter().all(|b| a.1 != b.1 || (a.0 < b.0) == (a.2 < b.2)));
+        c.check("public atoms and heard messages are in order", ordered);
         let mut columns: Vec<i64> = boxes.iter().map(|one| one.1 as i64).collect();
         columns.sort_unstable();
         columns.dedup();
         let column = |x: f64| columns.iter().position(|left| *left == x as i64);
-        for one in boxes.iter().filter(|one| one.0.starts_with("heard ") && !one.0.contains(", earlier:") && !one.0.contains("same as")) {
+        let start = |told: &str| told.starts_with("heard ") || told.starts_with("on the hull label");
+        for one in boxes.iter().filter(|one| start(&one.0) && !one.0.contains(", earlier:") && !one.0.contains("same as")) {
             let uses = |rung: &&str| entry(&one.0).map_or(false, |own| rung.split(' ').skip(2).any(|source| source == own));
-            let first = rungs.iter().position(uses).map(|step| format!("step {} · ", step + 1));
-            let user = first.and_then(|start| boxes.iter().find(|other| other.0.starts_with(&start)));
-            c.check(&format!("{} stands before its first use", one.0), user.map_or(rungs.is_empty(), |user| column(user.1) == column(one.1).map(|at| at + 1)));
+            let users = (0..rungs.len()).filter(|step| uses(&rungs[*step])).map(|step| format!("step {} · ", step + 1));
+            let first = users.filter_map(|start| column(boxes.iter().find(|other| other.0.starts_with(&start))?.1)).min();
+            c.check(&format!("{} stands before its first use", one.0), first.map_or(rungs.is_empty(), |first| column(one.1).map(|at| at + 1) == Some(first)));
         }
     }
 }
@@ -194,6 +241,7 @@ fn sources(card: &str) -> usize {
 
 fn pictures(c: &mut Checks) {
     let mut r = Random(0xd1b54a32d192ed03);
+    let mut public = 0;
     for i in 0..600 {
         let bytes = if i % 100 == 0 { large(&mut r) } else { random_sheet(&mut r) };
         let card = card_of(&bytes);
@@ -201,12 +249,14 @@ fn pictures(c: &mut Checks) {
             Ok((svg, dot)) => {
                 shows(c, &svg, &card);
                 shows_needed(c, &svg, &bytes, &card);
+                public += shows_starts(c, &svg, &dot, &bytes, &card);
                 c.check("a node a rung in dot", dot.matches("[label=\"step ").count() == card.matches("rung ").count());
                 c.check("an edge a source in dot", dot.matches(" -> ").count() == sources(&card));
             }
             Err(message) => c.check(&format!("{card}: {message}"), false),
         }
     }
+    c.check(&format!("{public} public atoms are drawn"), public > 100);
     // The longest ladder: pairs on pairs on zero.
     let chain: Vec<Entry> = (0..256u16).map(|i| if i == 0 { Entry::Zero } else { Entry::Pair(i - 1, i.saturating_sub(9)) }).collect();
     let bytes = sheet(&chain, &[], 255);
@@ -223,15 +273,15 @@ fn pictures_by_the_tool(c: &mut Checks) {
     c.check("sheet A is drawn", well_formed(&text) && text.matches("<g class=\"rung").count() == 2);
     let wanted = [
         "reached: session after 3 heard messages, in 2 rungs",
-        "step 1 · rung 0 sum: key = atom 7",
-        "step 2 · rung 3 open: session (goal) = atom 12",
+        "step 1 · rung 0 sum: key = atom 1007",
+        "step 2 · rung 3 open: session (goal) = atom 1012",
         "<g class=\"rung goal\">",
     ];
     wanted.iter().for_each(|part| c.check(part, text.contains(part)));
     let dot = c.draws(&["--dot", "-"], TEXT_A.as_bytes());
-    let named = dot.contains("step 2 · rung 3 open (goal)\\nsession\\natom 12");
+    let named = dot.contains("step 2 · rung 3 open (goal)\\nsession\\natom 1012");
     c.check("dot", dot.starts_with("digraph") && dot.matches(" -> ").count() == 4 && named);
-    let text = c.draws(&["-"], b"a atom 1\ns seal a a\nheard s\ngoal a\n");
+    let text = c.draws(&["-"], b"a atom 1001\ns seal a a\nheard s\ngoal a\n");
     let said = text.contains(">out of reach</text>") && text.contains("Known: 1 of the sheet&#39;s 2 different terms");
     c.check("out of reach is drawn", well_formed(&text) && said && text.contains(">out of reach: a after 1 heard message<"));
 }
@@ -288,7 +338,8 @@ fn needed(c: &mut Checks) {
 // Long ladders and long heard lists: no wider than a window, and every part has its caption.
 fn long(c: &mut Checks) {
     let key = |i: u16| if i == 0 { 0 } else { 2 * i - 1 };
-    let opens: Vec<Entry> = (0..=100u16).flat_map(|i| if i == 0 { vec![Entry::Atom(0)] } else { vec![Entry::Atom(i), Entry::Seal(key(i), key(i - 1))] }).collect();
+    let seal = |i: u16| (i > 0).then(|| Entry::Seal(key(i), key(i - 1)));
+    let opens: Vec<Entry> = (0..=100u16).flat_map(|i| [Some(Entry::Atom(1000 + i)), seal(i)]).flatten().collect();
     let heard: Vec<u16> = (1..=100).map(|i| 2 * i).chain([0]).collect();
     let bytes = sheet(&opens, &heard, key(100));
     let card = card_of(&bytes);
@@ -301,7 +352,7 @@ fn long(c: &mut Checks) {
         }
         Err(message) => c.check(&message, false),
     }
-    let locked: Vec<Entry> = (0..256u16).map(|i| if i == 0 { Entry::Atom(0) } else { Entry::Seal(i - 1, 0) }).collect();
+    let locked: Vec<Entry> = (0..256u16).map(|i| if i == 0 { Entry::Atom(1000) } else { Entry::Seal(i - 1, 0) }).collect();
     let bytes = sheet(&locked, &(1..=255).collect::<Vec<u16>>(), 0);
     let card = card_of(&bytes);
     c.check("255 heard seals and no key", card.ends_with("cut 255 out of reach known 255\n"));
@@ -311,10 +362,79 @@ fn long(c: &mut Checks) {
     }
 }
 
+// The boxes of a picture by class: public atoms, heard messages, rungs.
+fn counts(picture: &str) -> [usize; 3] {
+    ["public", "heard", "rung"].map(|class| picture.matches(&format!("<g class=\"{class}")).count())
+}
+
+// Names on the hull label, drawn: which have a box, what it says, and how many have none.
+fn public_pictures(c: &mut Checks) {
+    let text = "key atom\nname atom 255\nother atom 0\nmasked sum key name\nheard other masked name\ngoal key\n";
+    let picture = c.draws(&["-"], text.as_bytes());
+    c.check("a public atom that is used, and was heard later", counts(&picture) == [1, 1, 1] && well_formed(&picture));
+    c.check("its box", box_of(&picture, "name").contains(">on the hull label</text>") && box_of(&picture, "name").contains(" rx=\"0\"/>"));
+    c.check("the other one is counted", picture.contains(">Not drawn: 1 atom on the hull label that no rung uses.<"));
+    c.check("it doesn't count as heard too", !picture.contains("heard message that no rung uses") && picture.contains(">Not drawn: 1 message heard later.<"));
+    let heard = c.draws(&["-"], text.replace("heard other", "heard name other").as_bytes());
+    c.check("a public atom that was heard first", counts(&heard) == [1, 1, 1] && heard.contains("<title>on the hull label: name = atom 255</title>"));
+    let secret = c.draws(&["-"], text.replace("255", "256").replace("heard other", "heard name other").as_bytes());
+    c.check("atom 256 isn't public", counts(&secret) == [0, 2, 1] && secret.contains("<title>heard 1: name = atom 256</title>"));
+    let plain = c.draws(&["-"], TEXT_A.as_bytes());
+    c.check("a picture without public atoms says nothing of them", !plain.contains("public") && !plain.contains("hull"));
+    let goal = c.draws(&["-"], b"name atom 5\nother atom 6\ntwo atom 7\ngoal name\n");
+    c.check("a public goal", counts(&goal) == [1, 0, 0] && goal.contains("<g class=\"public goal\">"));
+    c.check("its title", goal.contains(">reached: name after 0 heard messages, in 0 rungs<"));
+    c.check("two are counted", goal.contains(">Not drawn: 2 atoms on the hull label that no rung uses.<"));
+    let goal = c.draws(&["--dot", "-"], b"name atom 5\nz zero\ng sum z name\ngoal g\n");
+    let said = "[label=\"on the hull label (goal)\\nname\\natom 5\\nsame as g\", style=filled, fillcolor=\"#fff2c2\"";
+    c.check("a goal that is a public atom", goal.contains(said));
+}
+
+// A public atom stands above the heard messages of its column, also where fewer lines would cross with it between them.
+fn public_order(c: &mut Checks) {
+    let text = "h1 atom\nname atom 9\nh2 atom\na pair h1 name\nb pair name h2\ng pair a b\nheard h1 h2\ngoal g\n";
+    let boxes = boxes_of(&c.draws(&["-"], text.as_bytes()));
+    let starts = ["on the hull label: name ", "heard 1: h1 ", "heard 2: h2 "].map(|start| boxes.iter().find(|one| one.0.starts_with(start)));
+    let holds = matches!(starts, [Some(name), Some(h1), Some(h2)] if name.1 == h1.1 && h1.1 == h2.1 && name.2 < h1.2 && h1.2 < h2.2);
+    c.check(&format!("a public atom comes first in its column: {boxes:?}"), holds);
+}
+
+fn public_out_of_reach(c: &mut Checks) {
+    let text = "key atom\nname atom 5\nother atom 6\n3 atom 5\nbox seal key key\nheard other box\ngoal key\n";
+    let picture = c.draws(&["-"], text.as_bytes());
+    c.check("every public atom is drawn once", counts(&picture) == [2, 1, 0] && well_formed(&picture) && apart(&areas(&picture)));
+    c.check("how many are known", picture.contains("Known: 3 of the sheet&#39;s 4 different terms"));
+    let dot = c.draws(&["--dot", "-"], text.as_bytes());
+    let nodes = ["on the hull label\\nname\\n", "on the hull label\\nother\\n", "heard 2\\nbox\\n", "not gained (goal)\\nkey\\n"];
+    let starts: Vec<usize> = nodes.iter().filter_map(|part| dot.find(part)).collect();
+    c.check(&format!("public atoms, heard messages, the goal: {starts:?} in\n{dot}"), starts.len() == 4 && starts.windows(2).all(|two| two[0] < two[1]));
+    let few = c.draws(&["-"], b"key atom\nname atom 5\ngoal key\n");
+    c.check("a public atom and nothing heard", counts(&few) == [1, 0, 0] && !few.contains(">nothing heard<"));
+    c.check("nothing at all", c.draws(&["-"], b"key atom\ngoal key\n").contains(">nothing heard<"));
+}
+
+// What the goal doesn't need may be public; and a long ladder names a public atom of an earlier part.
+fn public_needed(c: &mut Checks) {
+    let cases = [
+        ("b atom 1\nc atom 2\na atom\np pair b c\ng pair a a\nheard a\ngoal g\n", [2, 1, 2], "Left out: 1 rung and 2 atoms on the hull label that"),
+        ("b atom 1\nd atom\na atom\np pair b d\ng pair a a\nheard d a\ngoal g\n", [1, 2, 2], "Left out: 1 rung, 1 atom on the hull label and 1 heard message that"),
+    ];
+    for (text, all, note) in cases {
+        let (whole, few) = (c.draws(&["-"], text.as_bytes()), c.draws(&["--needed", "-"], text.as_bytes()));
+        c.check(&format!("{text:?} with {note}"), counts(&whole) == all && counts(&few) == [0, 1, 1] && few.contains(note) && !few.contains("Pale"));
+        c.check("pale public atoms", whole.matches("<g class=\"public pale\">").count() == all[0] && whole.contains(">Pale: 1 rung that"));
+    }
+    let seals: String = (1..=100).map(|i| format!("s{i} seal s{} name\n", i - 1)).collect();
+    let long = c.draws(&["-"], format!("s0 atom\nname atom 9\n{seals}heard s100\ngoal s0\n").as_bytes());
+    c.check("a public key for 100 seals", counts(&long) == [1, 1, 100] && apart(&areas(&long)));
+    let parts = long.matches("class=\"panel\"").count();
+    c.check("it is named in every later part", parts > 10 && long.matches(">on the hull label, earlier</text>").count() == parts - 1);
+}
+
 // A rung with other sources or another rule doesn't follow.
 fn wrong_rungs(c: &mut Checks) {
     use Entry::*;
-    let bytes = sheet(&[Atom(1), Atom(2), Pair(1, 0), Pair(2, 2), Seal(3, 0), Sum(vec![0, 1]), Pair(4, 5), Seal(6, 1)], &[4, 0], 7);
+    let bytes = sheet(&[Atom(1001), Atom(1002), Pair(1, 0), Pair(2, 2), Seal(3, 0), Sum(vec![0, 1]), Pair(4, 5), Seal(6, 1)], &[4, 0], 7);
     let card = card_of(&bytes);
     c.check("a card with each rule", pictured(&bytes, &card).is_ok());
     let edits = [
@@ -364,6 +484,10 @@ fn main() {
     names(&mut c);
     needed(&mut c);
     long(&mut c);
+    public_pictures(&mut c);
+    public_order(&mut c);
+    public_out_of_reach(&mut c);
+    public_needed(&mut c);
     wrong_rungs(&mut c);
     hurt_cards(&mut c);
     c.tally.end("pictures");

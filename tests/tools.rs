@@ -1,4 +1,4 @@
-// The tool `sheet`: round trips, every message with its place, nothing written on bad input, damaged cards.
+// The tool `sheet`: round trips, every message with its place, nothing written on bad input, damaged cards, and the names on the hull label.
 // The tool's path is the first argument. Most round trips run in this process, the rest through the tool.
 
 mod cards;
@@ -76,11 +76,11 @@ impl Checks {
     }
 }
 
-const TEXT_A: &str = "key atom 7\nmask atom 9\nmasked sum key mask\nsession atom 12\nbox seal session key\nheard masked box mask\ngoal session\n";
+const TEXT_A: &str = "key atom 1007\nmask atom 1009\nmasked sum key mask\nsession atom 1012\nbox seal session key\nheard masked box mask\ngoal session\n";
 
 fn sheet_a() -> Vec<u8> {
     use Entry::*;
-    sheet(&[Atom(7), Atom(9), Sum(vec![0, 1]), Atom(12), Seal(3, 0)], &[2, 4, 1], 3)
+    sheet(&[Atom(1007), Atom(1009), Sum(vec![0, 1]), Atom(1012), Seal(3, 0)], &[2, 4, 1], 3)
 }
 
 fn round_trips(c: &mut Checks) {
@@ -111,7 +111,7 @@ fn good_texts(c: &mut Checks) {
         TEXT_A.replace("key mask", "0 mask").replace("goal session", "goal 3"),
         TEXT_A.replace("heard masked box mask", "heard\nheard masked\nheard box mask"),
         TEXT_A.replace("key", "clé").replace("session", "k-1_x'"),
-        "0 atom 7\n1 atom 9\n2 sum 0 1\n3 atom 12\ngoal 3\n4 seal 3 0\nheard 2 4 1".to_string(),
+        "0 atom 1007\n1 atom 1009\n2 sum 0 1\n3 atom 1012\ngoal 3\n4 seal 3 0\nheard 2 4 1".to_string(),
     ];
     for text in same {
         let run = c.run(&["assemble"], text.as_bytes());
@@ -280,6 +280,57 @@ fn bad_cards(c: &mut Checks) {
     c.fails(&["draw", "a.sheet", "missing.card"], b"", 1, "missing.card: can't be read", &[]);
 }
 
+// The text of a sheet says which atoms are on the hull label: 0 to 255, each time that one stands there.
+fn public_comments(c: &mut Checks) {
+    use Entry::*;
+    let bytes = sheet(&[Atom(0), Atom(255), Atom(256), Atom(1000), Atom(65535), Atom(255), Zero, Sum(vec![1])], &[], 4);
+    let [first, second, fifth] = ["0 atom 0", "1 atom 255", "5 atom 255"].map(|line| format!("{line:<20} # on the hull label"));
+    let wanted = [&first, &second, "2 atom 256", "3 atom 1000", "4 atom 65535", &fifth, "6 zero"];
+    let text = String::from_utf8_lossy(&c.run(&["disassemble"], &bytes).out).into_owned();
+    let lines: Vec<&str> = text.lines().skip(1).take(7).collect();
+    c.check(&format!("the comments of\n{text}"), lines == wanted && text.contains("\n7 sum 1              # a255\n"));
+    let back = c.run(&["assemble"], text.as_bytes());
+    c.check("a sheet with public atoms comes back", back.status == 0 && back.err.is_empty() && back.out == bytes);
+}
+
+// The key is masked with a name on the hull label that stands twice on the sheet; another name isn't used.
+const TEXT_PUBLIC: &str = "\
+key atom 1007\nname atom 255\n2 atom 255\nspare atom 0\nmasked sum key name\nplan atom 1012\nbox seal plan key\nheard box masked\ngoal plan\n";
+const CARD_PUBLIC: &str = "\
+goal 5 heard 2\ncut 0 out of reach known 2\ncut 1 out of reach known 3\ncut 2 reached rungs 2\nrung 0 sum 1 4\nrung 5 open 6 0\n";
+
+// A card is replayed from the public atoms and the heard messages together. One that leaves the public atoms out is refused.
+fn public_cards(c: &mut Checks) {
+    let (heard, no_rung) = ("goal 0 heard 1\ncut 0 out of reach known 0\ncut 1 reached rungs 0\n", "goal 0 heard 1\ncut 0 reached rungs 0\n");
+    let (out, sum) = ("goal 0 heard 1\ncut 0 out of reach known 0\ncut 1 out of reach known 1\n", "goal 2 heard 0\ncut 0 reached rungs 0\n");
+    let goal = |number: &str| format!("name atom {number}\nheard name\ngoal name\n");
+    let same_goal = "name atom 9\nnothing zero\nsame sum name nothing\ngoal same\n".to_string();
+    let (card, own) = (CARD_PUBLIC.to_string(), TEXT_PUBLIC.to_string());
+    let right = [(&own, CARD_PUBLIC), (&goal("0"), no_rung), (&goal("255"), no_rung), (&goal("256"), heard), (&same_goal, sum)];
+    for (text, card) in right {
+        c.file("p.sheet", text.as_bytes());
+        let run = c.run(&["draw", "p.sheet", "-"], card.as_bytes());
+        let own = text::parse(text.as_bytes()).map(|text| card_of(&bytes::encode(&text.sheet)));
+        c.check(&format!("{text:?} with {card:?}: {}", run.err), run.status == 0 && run.out.starts_with(b"<svg") && own.as_deref() == Ok(card));
+    }
+    let old = "goal 5 heard 2\ncut 0 out of reach known 0\ncut 1 out of reach known 1\ncut 2 out of reach known 2\n".to_string();
+    let wrong = [
+        (&own, old, "2:26", "found known 0, expected 2 to 5: the card is of another sheet, or leaves out what is on the hull label"),
+        (&own, card.replace("known 2", "known 1"), "2:26", "found known 1, expected 2 to 5"),
+        (&own, card.replace("known 3", "known 2"), "3:26", "found known 2, expected 3 to 5: the card is of another sheet\n"),
+        (&own, card.replace("rung 0 sum 1 4", "rung 1 sum"), "5:6", "can't gain entry 1 here"),
+        (&own, card.replace("sum 1 4", "sum 2 4"), "5:12", "the source 2 isn't gained yet"),
+        (&own.replace("255", "256"), card.clone(), "5:12", "the source 1 isn't gained yet"),
+        (&goal("255"), out.to_string(), "2:7", "found out of reach, but the goal is on the hull label"),
+        (&goal("256"), out.to_string(), "3:7", "found out of reach, but the goal was heard before this cut"),
+        (&goal("256"), no_rung.to_string(), "2:21", "don't gain the goal"),
+    ];
+    for (text, card, place, said) in wrong {
+        c.file("p.sheet", text.as_bytes());
+        c.fails(&["draw", "p.sheet", "-"], card.as_bytes(), 1, &format!("<stdin>:{place}: "), &[said]);
+    }
+}
+
 fn main() {
     let tool = std::env::args().nth(1).expect("the tool's path");
     let tool = Path::new(&tool).canonicalize().expect("the tool is there").to_string_lossy().into_owned();
@@ -292,6 +343,8 @@ fn main() {
     refused_sheets(&mut c);
     usage(&mut c);
     bad_cards(&mut c);
+    public_comments(&mut c);
+    public_cards(&mut c);
     let _ = fs::remove_dir_all(&dir);
     c.tally.end("tools");
 }
