@@ -6,7 +6,7 @@ mod sheets;
 #[allow(dead_code)]
 mod reading;
 use reading::{add, expected, one, read, single, size, start, work, Answer, Piece, Term};
-use sheets::{damage, random_entries, sheet, Entry, Random};
+use sheets::{damage, random_entries, sheet, Entry, Random, ATOMS};
 use std::collections::BTreeSet;
 use std::rc::Rc;
 
@@ -67,6 +67,8 @@ struct Tally {
     out: u64,
     stopped: u64,
     refused: u64,
+    // ends the test at the first failure, for libraries that are wrong on purpose
+    first_only: bool,
 }
 
 impl Tally {
@@ -88,6 +90,9 @@ impl Tally {
             self.failed += 1;
             if self.failed < 10 {
                 println!("sheet {s:?} cut {cut} budget {budget} length {length}: library {got}, text {number}, guards kept: {guarded}");
+            }
+            if self.first_only {
+                std::process::exit(1);
             }
         }
     }
@@ -118,6 +123,20 @@ fn small_sheets(t: &mut Tally, r: &mut Random) {
             let bad = damage(r, good);
             t.every_cut(&bad, r);
         }
+    }
+}
+
+// Atoms of both ranges and sums of them, which are heard: which of the gained terms a sum draws on depends on the order in which names and messages
+// are gained.
+fn heard_sums(t: &mut Tally, r: &mut Random) {
+    for _ in 0..2000 {
+        let atoms = 2 + r.below(3);
+        let sums = 2 + r.below(4);
+        let mut entries: Vec<Entry> = (0..atoms).map(|_| Entry::Atom(ATOMS[r.below(6) as usize])).collect();
+        entries.extend((0..sums).map(|_| Entry::Sum((0..2 + r.below(2)).map(|_| r.below(atoms) as u16).collect())));
+        let heard: Vec<u16> = (0..sums).map(|_| r.below(atoms + sums) as u16).collect();
+        let s = sheet(&entries, &heard, r.below(atoms) as u16);
+        t.every_cut(&s, r);
     }
 }
 
@@ -257,11 +276,13 @@ fn every_entry(t: &mut Tally) {
 }
 
 fn main() {
-    let mut t = Tally { calls: 0, failed: 0, reached: 0, out: 0, stopped: 0, refused: 0 };
+    let first_only = std::env::args().nth(1).as_deref() == Some("first");
+    let mut t = Tally { calls: 0, failed: 0, reached: 0, out: 0, stopped: 0, refused: 0, first_only };
     let mut r = Random(0x2545f4914f6cdd1d);
     let wrong = cases(&mut t) + large(&mut t);
     every_entry(&mut t);
     small_sheets(&mut t, &mut r);
+    heard_sums(&mut t, &mut r);
     let (tried, failed) = off_sheet(&mut r);
     println!("brute force: {} calls, {} reached, {} out of reach, {} stopped, {} refused; off the sheet: {} tried", t.calls, t.reached, t.out, t.stopped, t.refused, tried);
     let bad = t.failed + failed + wrong as u64;

@@ -3,6 +3,7 @@
 #include <stdio.h>
 
 #define N(x) 0, (x)                /* a number below 256 */
+#define SECRET(x) 3, 232 + (x)     /* 1,000 and a number below 24: an atom that isn't on the hull label */
 #define PLACE(at, len) N(at), N(len)
 
 enum { X, Y, M, Z, PAIR, SEAL, SUM, JOINED, GOAL, ZERO, ENTRIES, HEARD = 3, RECORDS = ZUWENDRYK_RECORDS_AT(ENTRIES, HEARD) };
@@ -12,10 +13,10 @@ static const uint8_t sheet[] = {
     PLACE(RECORDS, 3), PLACE(RECORDS + 3, 3), PLACE(RECORDS + 6, 3), PLACE(RECORDS + 9, 3), PLACE(RECORDS + 12, 5),
     PLACE(RECORDS + 17, 5), PLACE(RECORDS + 22, 5), PLACE(RECORDS + 27, 5), PLACE(RECORDS + 32, 5), PLACE(RECORDS + 37, 1),
     N(PAIR), N(SEAL), N(SUM),
-    ZUWENDRYK_KIND_ATOM, N(10),
-    ZUWENDRYK_KIND_ATOM, N(11),
-    ZUWENDRYK_KIND_ATOM, N(12),
-    ZUWENDRYK_KIND_ATOM, N(13),
+    ZUWENDRYK_KIND_ATOM, SECRET(10),
+    ZUWENDRYK_KIND_ATOM, SECRET(11),
+    ZUWENDRYK_KIND_ATOM, SECRET(12),
+    ZUWENDRYK_KIND_ATOM, SECRET(13),
     ZUWENDRYK_KIND_PAIR, N(X), N(Y),
     ZUWENDRYK_KIND_SEAL, N(M), N(X),
     ZUWENDRYK_KIND_SUM, N(M), N(Z),

@@ -98,7 +98,7 @@ static uint8_t *put_record(uint8_t *at, size_t entry) {
     if (entry >= 8 && entry % 4 > 1) return put_sum(at, entry);
     if (entry < 8) {
         *at = ZUWENDRYK_KIND_ATOM;
-        return put(at + 1, entry);
+        return put(at + 1, 1000 + entry);
     }
     *at = kinds[entry % 4];
     return put(put(at + 1, part(entry)), part(entry));

@@ -1,9 +1,15 @@
 // Libraries that are wrong on purpose, by the plain Rust verdict with a fault put in: the brute-force test has to fail on each of them, and
-// to pass on the one without a fault. The fault is chosen when this file is compiled.
+// to pass on the one without a fault. The environment variable FAULT chooses the fault.
 
 #[allow(dead_code)]
 mod sheets;
 mod plain;
+use std::sync::OnceLock;
+
+fn fault() -> &'static str {
+    static FAULT: OnceLock<String> = OnceLock::new();
+    FAULT.get_or_init(|| std::env::var("FAULT").unwrap_or_default())
+}
 
 fn number(s: &[u8], at: usize) -> u16 {
     u16::from_be_bytes([s[at], s[at + 1]])
@@ -55,7 +61,7 @@ fn verdict(s: &[u8], cut: u32, budget: u32, out: &mut [u8]) -> u32 {
     if sheets::refusal(s) != 0 || cut > u32::from(number(s, 6)) {
         return plain::verdict(s, cut, budget, out);
     }
-    match FAULT {
+    match fault() {
         "one name too few" => plain::verdict(&renumbered(s, |a| if a == 255 { 30000 } else { a }), cut, budget, out),
         "one name too many" => plain::verdict(&renumbered(s, |a| if a == 256 { 128 } else { a }), cut, budget, out),
         "names not at cut 0" if cut == 0 => plain::verdict(&renumbered(s, hidden), cut, budget, out),
@@ -74,7 +80,7 @@ pub unsafe extern "C" fn zuwendryk_verdict(sheet: *const u8, sheet_len: usize, c
     let before = out.to_vec();
     let answer = verdict(s, cut, budget, out);
     let rungs = (answer % 1000) as usize;
-    match FAULT {
+    match fault() {
         "an invented count" if answer >= 1000 => answer + 1,
         "the first rung copied" if answer >= 1000 && rungs > 1 => {
             out.copy_within(32..72, 72);
@@ -110,5 +116,3 @@ pub unsafe extern "C" fn zuwendryk_verdict(sheet: *const u8, sheet_len: usize, c
         _ => answer,
     }
 }
-
-include!(concat!(env!("FAULT_DIR"), "/fault.rs"));

@@ -28,7 +28,7 @@ pub enum Command {
 }
 
 // The version of the tool and of the library, as the C header has it.
-const VERSION: &str = "sheet 1.0.0\n";
+const VERSION: &str = "sheet 2.0.0\n";
 
 const HELP: &str = "\
 sheet - sheets as text, verdicts in names, and pictures of their ladders
