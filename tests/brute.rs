@@ -4,6 +4,8 @@
 #[allow(dead_code)] // each test uses a part
 mod sheets;
 #[allow(dead_code)]
+mod kinds;
+#[allow(dead_code)]
 mod reading;
 use reading::{add, expected, one, read, single, size, start, work, Answer, Piece, Term};
 use sheets::{damage, random_entries, sheet, Entry, Random, ATOMS};
@@ -87,13 +89,17 @@ impl Tally {
             _ => self.stopped += 1,
         }
         if got != number || area[16..16 + length] != buffer[..] || !guarded {
-            self.failed += 1;
-            if self.failed < 10 {
-                println!("sheet {s:?} cut {cut} budget {budget} length {length}: library {got}, text {number}, guards kept: {guarded}");
-            }
-            if self.first_only {
-                std::process::exit(1);
-            }
+            self.fail(&format!("sheet {s:?} cut {cut} budget {budget} length {length}: library {got}, text {number}, guards kept: {guarded}"));
+        }
+    }
+
+    fn fail(&mut self, what: &str) {
+        self.failed += 1;
+        if self.failed < 10 {
+            println!("{what}");
+        }
+        if self.first_only {
+            std::process::exit(1);
         }
     }
 
@@ -137,6 +143,34 @@ fn heard_sums(t: &mut Tally, r: &mut Random) {
         let heard: Vec<u16> = (0..sums).map(|_| r.below(atoms + sums) as u16).collect();
         let s = sheet(&entries, &heard, r.below(atoms) as u16);
         t.every_cut(&s, r);
+    }
+}
+
+// Larger sheets, on which sums can't be tried one by one: with names on the hull label the answer and every byte are those of the sheet that has
+// other atoms in their places, heard ahead of all messages.
+fn names_as_heard(t: &mut Tally) {
+    for seed in 0..300 {
+        let n = 20 + 10 * (seed as usize % 16);
+        let (drawn, heard, goal) = kinds::drawn(n, seed);
+        let names: Vec<u16> = (0..n as u16).step_by(3).filter(|i| matches!(drawn[usize::from(*i)], Entry::Atom(_))).collect();
+        let (mut named, mut hidden) = (drawn.clone(), drawn);
+        for i in &names {
+            named[usize::from(*i)] = Entry::Atom(i % 16);
+            hidden[usize::from(*i)] = Entry::Atom(2000 + i % 16);
+        }
+        let late = [names.clone(), heard.clone()].concat();
+        let sheets = [sheet(&named, &heard, goal), sheet(&hidden, &late, goal)];
+        for cut in [0, heard.len() / 2, heard.len()] {
+            for budget in [0, 7, 256] {
+                let mut outs = [(); 2].map(|_| vec![0xa5u8; 32 + 40 * budget]);
+                let cuts = [cut, cut + names.len()];
+                let answers = [0, 1].map(|i| verdict(&sheets[i], cuts[i] as u32, budget as u32, &mut outs[i]));
+                t.calls += 1;
+                if answers[0] != answers[1] || outs[0] != outs[1] {
+                    t.fail(&format!("names {named:?} heard {heard:?} goal {goal} cut {cut} budget {budget}: {answers:?}"));
+                }
+            }
+        }
     }
 }
 
@@ -283,6 +317,7 @@ fn main() {
     every_entry(&mut t);
     small_sheets(&mut t, &mut r);
     heard_sums(&mut t, &mut r);
+    names_as_heard(&mut t);
     let (tried, failed) = off_sheet(&mut r);
     println!("brute force: {} calls, {} reached, {} out of reach, {} stopped, {} refused; off the sheet: {} tried", t.calls, t.reached, t.out, t.stopped, t.refused, tried);
     let bad = t.failed + failed + wrong as u64;

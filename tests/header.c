@@ -27,6 +27,14 @@ static void sizes(void) {
            sizeof sheet);
 }
 
+/* The verdict on a sheet of one atom that nobody heard. */
+static uint32_t alone(unsigned atom) {
+    uint8_t one[] = {'S', 'H', 'T', '1', 0, 1, 0, 0, 0, 0, 0, 14, 0, 3, ZUWENDRYK_KIND_ATOM, 0, 0};
+    one[15] = atom >> 8 & 255u;
+    one[16] = atom & 255u;
+    return zuwendryk_verdict(one, sizeof one, 0, 0, buffer, sizeof buffer);
+}
+
 static void version(void) {
     char text[64];
     sprintf(text, "%d.%d.%d", ZUWENDRYK_VERSION_MAJOR, ZUWENDRYK_VERSION_MINOR, ZUWENDRYK_VERSION_PATCH);
@@ -37,6 +45,8 @@ int main(void) {
     sizes();
     version();
     expect("the answer to a sheet of zeros", zuwendryk_verdict(sheet, sizeof sheet, 0, 0, buffer, sizeof buffer), ZUWENDRYK_NO_SHEET);
+    expect("the answer to the last name on the hull label", alone(ZUWENDRYK_NAMES - 1), ZUWENDRYK_REACHED);
+    expect("the answer to the first atom that is none", alone(ZUWENDRYK_NAMES), ZUWENDRYK_OUT_OF_REACH);
     expect("the validity of a sheet of zeros", zuwendryk_validate(sheet, sizeof sheet), ZUWENDRYK_NO_SHEET);
     return failed != 0;
 }
