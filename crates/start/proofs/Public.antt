@@ -1,16 +1,16 @@
--- What a reader may conclude of the start. Shown: `atom-head`, an atom's head is the same atom; `public-every`, the head of every public atom on the sheet is listed; `public-only`, nothing else is;
--- `public-rising`, in rising entry order, so none twice; `public-start`, `public-gained`, at every cut its head and its term are gained at the start;
--- `start-without`, a sheet without public atoms starts from its heard messages alone. Assumes nothing.
+-- What a reader may conclude of the start.
+-- Shown: `atom-head`, an atom's head is the same atom; `public-every`, the head of every public atom on the sheet is listed; `public-only`, nothing else
+-- is; `public-rising`, in rising entry order, so none twice; `public-start`, `public-gained`, at every cut its head and its term are gained at the
+-- start; `start-without`, a sheet without public atoms starts from its heard messages alone. Assumes nothing.
 use mathlib.Core.Path.{_≡_, refl, sym, ap, ap₂, _∙_, subst}
 use mathlib.Core.Bool.{Bool, true, false, true≢false, _&&_, cond}
-use mathlib.Core.List.{List, [], _∷_, _++_, map, map-append, append-nil, List·Memᴰ, List·Memᴰ·head, List·Memᴰ·tail, List·Memᴰ·not-nil, List·Memᴰ·append-cases, List·Memᴰ·eq-of-singleton, Memᴰ·append-left, Memᴰ·append-right, Memᴰ·map, Memᴰ·cast}
-use mathlib.Core.Logic.{inl, inr, ⊎-elim, by-cases}
-use Prim.Native.Nat.{ℕ, zero, suc, _+_, _≤_, _<_}
+use mathlib.Core.List.{List, [], _∷_, _++_, map, append-nil, List·Memᴰ, List·Memᴰ·head, List·Memᴰ·tail, List·Memᴰ·not-nil, List·Memᴰ·append-cases, List·Memᴰ·eq-of-singleton, Memᴰ·append-left, Memᴰ·append-right, Memᴰ·map, Memᴰ·cast}
+use mathlib.Core.Logic.{⊎-elim, by-cases}
+use Prim.Native.Nat.{ℕ, zero, suc, _<_}
 use native.Mathlib.Decide.{decLt}
-use native.Mathlib.Nat.{le-trans}
 use native.Mathlib.Omega.{arith}
 use borrow.Author.Tests.{eqb-true, eq-eqb, lt-ltb}
-use lib.Dec.{eqb, ltb}
+use lib.Dec.{eqb}
 use lib.ListN.{length, getD, length-append, List·getD-append}
 use lib.Seq.{getD-append-seam}
 use Rattle.deduction.specs.Term.{Term, 𝟎, atom}

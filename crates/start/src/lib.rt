@@ -2,14 +2,14 @@
 ghost use mathlib.Core.Path.{_≡_};
 ghost use mathlib.Core.Bool.{_&&_};
 ghost use mathlib.Core.List.{_++_, map};
-ghost use Prim.Native.Nat.{_+_, _≤_};
+ghost use Prim.Native.Nat.{_+_, _*_, _≤_};
 ghost use lib.Dec.{eqb};
-ghost use lib.ListN.{length, getD, take};
+ghost use lib.ListN.{length, getD, take, replicate};
 ghost use Rattle.deduction.specs.Standard.{setAt, repAt};
 ghost use Rattle.deduction.specs.Run.{knowledge};
 ghost use Rattle.dag.specs.Sheet.{countOf, traceLength, traceOf};
 ghost use Rattle.dag.specs.Record.{entryAt};
-ghost use Rattle.knowledge.specs.Inner.Rows.{Remainders};
+ghost use Rattle.knowledge.specs.Inner.Rows.{SameOutside, Remainders};
 ghost use Rattle.knowledge.specs.Inner.State.{stateOf, Room};
 ghost use Rattle.start.specs.Start.{publicHeads, startHeads};
 ghost use Rattle.start.specs.Inner.State.{publicKey, Keyed, Listing, Hearing, Started};
@@ -63,7 +63,7 @@ fn public_heads(
 }
 
 // Lists the messages heard before the cut from place at on, in order, each as its representative. Hands back the place after them.
-fn heard_heads(s: &[u8], cut: u16, reps: &[u8; 256], list: &mut [u8; 512], at: usize) -> usize
+fn trace_heads(s: &[u8], cut: u16, reps: &[u8; 256], list: &mut [u8; 512], at: usize) -> usize
     requires { ⌜ Listing (now s) (now reps) (now list) at × (cut ≤ traceLength (now s)) ⌝ }
     ensures heads { λ r. ⌜ take r (now (list .exit)) ≡ take at (now (list .entry)) ++ map (repAt (entryAt (now (s .entry)))) (traceOf (now (s .entry)) cut) ⌝ }
     ensures place { λ r. ⌜ r ≡ at + cut ⌝ }
@@ -92,6 +92,8 @@ fn hear(
     ensures room { λ r. ⌜ Room (r .known) (r .len) ⌝ }
     ensures sizes { λ r. ⌜ (length (r .rows) ≡ 2048) × (length (now (remainders .exit)) ≡ 256) ⌝ }
     ensures cache { λ r. ⌜ Remainders (setAt (entryAt (now (s .entry)))) (countOf (now (s .entry))) (r .rows) (r .len) (now (remainders .exit)) ⌝ }
+    ensures kept { λ r. ⌜ SameOutside 0 (8 * r .len) (replicate 2048 0) (r .rows) ⌝ }
+    ensures others { λ _. ⌜ SameOutside 0 (countOf (now (s .entry))) (now (remainders .entry)) (now (remainders .exit)) ⌝ }
 {
     let n = sheet::count(s) as usize;
     let mut state = Knowledge::new();
@@ -124,9 +126,11 @@ pub fn state(
     ensures room { λ r. ⌜ Room (r .known) (r .len) ⌝ }
     ensures sizes { λ r. ⌜ (length (r .rows) ≡ 2048) × (length (now (remainders .exit)) ≡ 256) ⌝ }
     ensures cache { λ r. ⌜ Remainders (setAt (entryAt (now (s .entry)))) (countOf (now (s .entry))) (r .rows) (r .len) (now (remainders .exit)) ⌝ }
+    ensures kept { λ r. ⌜ SameOutside 0 (8 * r .len) (replicate 2048 0) (r .rows) ⌝ }
+    ensures others { λ _. ⌜ SameOutside 0 (countOf (now (s .entry))) (now (remainders .entry)) (now (remainders .exit)) ⌝ }
 {
     let mut list = [0u8; 512];
     let own = public_heads(s, keys, reps, &mut list, 0);
-    let len = heard_heads(s, cut, reps, &mut list, own);
+    let len = trace_heads(s, cut, reps, &mut list, own);
     hear(s, &list, len, sets, remainders)
 }

@@ -1,6 +1,7 @@
 -- Wrong answers and wrong ladders on small sheets, proved not to meet the demands or not to pass, whatever the buffers hold. Each would pass a weaker definition.
--- Shown: a public atom out of reach, atom 256 reached, a public atom gained by its own number or after the heard messages; on sheet A a rung too many, a rung missing, out of reach for a derivable goal, reached beyond the budget, a copied rung, a head too many or
--- too few in the gained set; a wrong source and a missed goal in the replay; out of reach before the last rung. By computation. Assumes nothing.
+-- Shown: on sheet A a rung too many, a rung missing, out of reach for a derivable goal, reached beyond the budget, a copied rung, a head too many or
+-- too few in the gained set; a wrong source and a missed goal in the replay; out of reach before the last rung; a public atom out of reach, atom 256
+-- reached, a public atom gained by its own number, or after the heard messages. By computation. Assumes nothing.
 use mathlib.Core.Path.{_≡_, refl, sym, ap, ap₂, _∙_, subst}
 use mathlib.Core.Bool.{true, false, true≢false}
 use mathlib.Core.Logic.{inl, inr, _↔_}

@@ -1,5 +1,6 @@
--- The public atoms and the heard messages, listed one by one from the tables. Defined: `Listed`, what holds after some entries. Shown: what one more adds; the whole list is that of the heads
--- gained at the start (`start-listed`), and each is an entry (`start-below`, `heads-below`). Assumes nothing.
+-- The public atoms and the heard messages, listed one by one from the tables. Defined: `Listed`, what holds after some entries.
+-- Shown: what one more adds; the whole list is that of the heads gained at the start (`start-listed`), and each is an entry (`start-below`, `heads-below`).
+-- Assumes nothing.
 use mathlib.Core.Path.{_≡_, refl, sym, ap, ap₂, _∙_, subst}
 use mathlib.Core.Bool.{Bool, true, false, _&&_, cond}
 use mathlib.Core.List.{List, [], _∷_, _++_, map, map-append, append-nil, append-assoc, List·Memᴰ, List·Memᴰ·not-nil, List·Memᴰ·append-cases, List·Memᴰ·eq-of-singleton, Memᴰ·of-map}
@@ -9,8 +10,8 @@ use native.Mathlib.Decide.{decLt}
 use native.Mathlib.Nat.{le-refl, le-trans}
 use native.Mathlib.Omega.{arith}
 use native.Mathlib.Numerals.{add-one}
-use borrow.Author.Tests.{lt-ltb, le-ltb, le-leb, lt-leb}
-use lib.Dec.{eqb, ltb, leb}
+use borrow.Author.Tests.{lt-ltb, le-ltb, le-leb}
+use lib.Dec.{eqb}
 use lib.ListN.{length, getD, set, take, length-set}
 use lib.Seq.{take-suc-set, getD-take, length-take-le}
 use Rattle.deduction.specs.Entry.{Entry, Zero, Atom, Pair, Enc, Sum}
@@ -20,7 +21,7 @@ use Rattle.dag.specs.Sheet.{countOf, traceLength, traceAt, traceOf, listed}
 use Rattle.dag.specs.Record.{entryAt}
 use Rattle.dag.specs.Refusal.{refusal}
 use Rattle.dag.proofs.Laws.Good.{good}
-use Rattle.canonical.specs.Inner.Key.{keyOf, keyAt}
+use Rattle.canonical.specs.Inner.Key.{keyOf}
 use Rattle.start.specs.Start.{isPublic, publicHeads, startEntries, startHeads}
 use Rattle.start.specs.Inner.State.{publicKey, Keyed}
 use Rattle.start.proofs.Public.{public-only, public-own}

@@ -21,7 +21,7 @@ use Rattle.start.proofs.hear.Tie as tie
 
 abbrev Inv-loop : tie.InvT-loop
 Inv-loop s list len sets remainders₀ n state₀ k₀ remainders state k =
-    (n ≡ countOf s) × (k ≤ len) × Hearing s list len sets remainders₀ × Held s (take k list) state remainders
+    (n ≡ countOf s) × (k ≤ len) × Hearing s list len sets remainders₀ × Held s remainders₀ (take k list) state remainders
 
 abbrev μ-loop : tie.MeasureT-loop
 μ-loop s list len sets remainders₀ n state₀ k₀ remainders state k =
@@ -46,7 +46,7 @@ rows-more c =
 
 -- one head more: heard, or known before
 more : (c : tie.Joined1 Inv-loop μ-loop) → let a = c .before .before .before .before .before in
-    let g = a .before .before .before .before .args in Held (now (g .s)) (take (a .loop .k + 1) (now (g .list))) (c .if1 .state) (c .if1 .remainders)
+    let g = a .before .before .before .before .args in Held (now (g .s)) (now (g .remainders)) (take (a .loop .k + 1) (now (g .list))) (c .if1 .state) (c .if1 .remainders)
 more c =
     let t = c .before .before .before .before in
     let a = t .before in
@@ -70,7 +70,7 @@ new-requires c κs = search needs
 
 loop-holds : tie.Need-loop-holds Inv-loop μ-loop
 loop-holds c = let r = c .before .before .before .pre in
-    (c .before .count .ensures, search needs, r, held-none r (c .new .result) (c .new .ensures .0) (c .new .ensures .1 .0) (search needs))
+    (c .before .count .ensures, search needs, r, held-none r (c .new .result) (c .new .ensures .0) (c .new .ensures .1 .0) (c .new .ensures .1 .1))
 
 element-copy-out-e : tie.Need-element-copy-out-e Inv-loop μ-loop
 element-copy-out-e c = omega (arith, below c, c .before .loop .inv .2 .within)
@@ -110,7 +110,7 @@ loop-again c = let a = c .before .before .before .before .before in (a .loop .in
 returns : tie.Need-returns Inv-loop μ-loop
 returns c = let h = c .before .loop .inv .3 in
     let a = c .before .before .before .before .before .args in
-    (h .state ∙ ap (λ (k : ℕ). knowledge (entryAt (now (a .s))) (take k (now (a .list)))) (done c), (h .room, ((h .words, h .lines), h .cache)))
+    (h .state ∙ ap (λ (k : ℕ). knowledge (entryAt (now (a .s))) (take k (now (a .list)))) (done c), (h .room, ((h .words, h .lines), (h .cache, (h .kept, h .others)))))
 
 pub hear-spec : {M : Type 1} → statement M
 hear-spec =

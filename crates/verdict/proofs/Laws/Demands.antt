@@ -4,8 +4,8 @@ use mathlib.Core.Path.{_≡_, refl, sym, ap, ap₂, _∙_, subst}
 use mathlib.Core.Bool.{true}
 use mathlib.Core.Logic.{⊎-elim, _↔_}
 use mathlib.Core.List.{List, _∷_, _++_, map, List·Memᴰ, List·Memᴰ·not-nil, List·Memᴰ·head, List·Memᴰ·cases-cons, List·Memᴰ·append-cases, List·Memᴰ·eq-of-singleton, Memᴰ·append-right, append-assoc}
-use Prim.Native.Nat.{ℕ, zero, suc, _+_, _*_, _^_, _≤_, _<_}
-use native.Mathlib.Nat.{le-trans, lt-of-lt-of-le, mod-eq-of-lt, le-refl}
+use Prim.Native.Nat.{ℕ, _+_, _*_, _^_, _≤_, _<_}
+use native.Mathlib.Nat.{le-trans, lt-of-lt-of-le, mod-eq-of-lt}
 use native.Mathlib.Omega.{arith}
 use lib.ListN.{length, take, drop, length-append}
 use lib.Pow.{pow-mono, pow-pos}
@@ -23,7 +23,7 @@ use Rattle.deduction.specs.Run.{Outcome, knowledge}
 use Rattle.deduction.specs.Replay.{Replays}
 use Rattle.deduction.proofs.Steps.{Heads, Made, made, learnt-steps, learnt-heads, known-set, steps-le, run-enough, run-course, trace-run-replays, trace-underivable-exact, trace-underivable-iff, trace-heads}
 use Rattle.deduction.proofs.Steps.Replay.{endState}
-use Rattle.dag.specs.Sheet.{countOf, goalOf, traceAt, traceLength, traceOf, listed}
+use Rattle.dag.specs.Sheet.{countOf, goalOf, traceLength}
 use Rattle.dag.specs.Record.{entryAt}
 use Rattle.dag.specs.Refusal.{refusal}
 use Rattle.dag.proofs.Laws.Good.{Good, good}

@@ -35,7 +35,7 @@ run-requires c κs = let m = c .before .before .before .before .before .before .
       words = h .1 .1 .0 .0;
       lines = h .1 .1 .0 .1;
       room = h .1 .0;
-      cache = h .1 .1 .1;
+      cache = h .1 .1 .1 .0;
       limit = s .pre .2;
       space = s .pre .3;
     }

@@ -1,4 +1,4 @@
--- `start::heard_heads` meets its contract. The loop's invariant: the list has, behind what stood in it, the heads of the messages so far.
+-- `start::trace_heads` meets its contract. The loop's invariant: the list has, behind what stood in it, the heads of the messages so far.
 use mathlib.Core.Path.{_≡_, sym, ap, _∙_, subst}
 use mathlib.Core.List.{[], _∷_, _++_, map}
 use Prim.Native.Nat.{ℕ, _+_, _-_, _≤_, _<_}
@@ -12,8 +12,8 @@ use Rattle.dag.specs.Sheet.{countOf, traceAt, traceOf}
 use Rattle.dag.specs.Record.{entryAt}
 use Rattle.dag.proofs.Laws.Good.{good}
 use Rattle.start.proofs.Laws.Heads.{messages-none, list-more, message-listed}
-use Rattle.start.proofs.heard_heads.Statement.{statement}
-use Rattle.start.proofs.heard_heads.Tie as tie
+use Rattle.start.proofs.trace_heads.Statement.{statement}
+use Rattle.start.proofs.trace_heads.Tie as tie
 
 abbrev Inv-loop : tie.InvT-loop
 Inv-loop s cut reps list₀ at end₀ k₀ list end k =
@@ -80,8 +80,8 @@ returns c = let l = c .before .loop in
     let done : l .k ≡ s .args .cut = omega (arith, l .inv .0, c .loop-test .left) in
     (l .inv .3 ∙ ap (λ (k : ℕ). take (s .args .at) (now (s .args .list)) ++ map (repAt (entryAt (now (s .args .s)))) (traceOf (now (s .args .s)) k)) done, (l .inv .1 ∙ ap (λ (k : ℕ). s .args .at + k) done, l .inv .2))
 
-pub heard-heads-spec : {M : Type 1} → statement M
-heard-heads-spec =
+pub trace-heads-spec : {M : Type 1} → statement M
+trace-heads-spec =
     tie.close
     (tie.spec
     Inv-loop
