@@ -107,8 +107,8 @@ extern "C" {
 #define ZUWENDRYK_HEARD_AT(n) (ZUWENDRYK_PLACES_AT + 4 * ZUWENDRYK_SIZE(n))
 #define ZUWENDRYK_RECORDS_AT(n, h) (ZUWENDRYK_HEARD_AT(n) + 2 * ZUWENDRYK_SIZE(h))
 
-/* RULES. A listener starts with the names on the hull label, which are the atoms 0 to 255 that stand on the sheet, in the order of their entries, also at
- * cut 0; then come the heard messages before the cut, in their order. Each is gained as its head. Then one term is gained a rung:
+/* RULES. A listener starts with the names on the hull label, also at cut 0: the atoms 0 to 255 that stand on the sheet, in the order of their
+ * entries. Then come the heard messages before the cut, in their order. Each is gained as its head. After that one term is gained a rung:
  *
  *     rule        gains                                  first source    second source    set
  *     1 left      the left of a pair                     the pair        65,535           zero
