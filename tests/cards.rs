@@ -36,21 +36,6 @@ pub fn card_of(sheet: &[u8]) -> String {
     text
 }
 
-// Numbers on both sides of 255, the last one on the hull label.
-const ATOMS: [u16; 8] = [0, 1, 255, 256, 257, 1000, 1001, 65535];
-
-// The entries with four other numbers for their atoms, so that public atoms and others stand side by side. The same atoms stay the same.
-pub fn mixed(r: &mut Random, entries: Vec<Entry>) -> Vec<Entry> {
-    let drawn: Vec<u16> = (0..4).map(|_| ATOMS[r.below(8) as usize]).collect();
-    let mut seen: Vec<u16> = vec![];
-    let mut place = |number: u16| {
-        seen.extend((!seen.contains(&number)).then_some(number));
-        seen.iter().position(|other| *other == number).unwrap_or(0)
-    };
-    let renumbered = |entry| if let Entry::Atom(number) = entry { Entry::Atom(drawn[place(number) % 4]) } else { entry };
-    entries.into_iter().map(renumbered).collect()
-}
-
 // A good sheet with many entries, long sums and many heard messages.
 pub fn large(r: &mut Random) -> Vec<u8> {
     let n = 200 + r.below(57);
@@ -69,5 +54,5 @@ pub fn large(r: &mut Random) -> Vec<u8> {
 pub fn random_sheet(r: &mut Random) -> Vec<u8> {
     let most = [3, 9, 20, 60][r.below(4) as usize];
     let (entries, heard, goal) = random_entries(r, most);
-    sheet(&mixed(r, entries), &heard, goal)
+    sheet(&entries, &heard, goal)
 }

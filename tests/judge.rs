@@ -4,14 +4,11 @@
 // Arguments: the tool, the program, and the repository's folder.
 
 #[allow(dead_code)] // each test uses a part
-mod cards;
-#[allow(dead_code)]
 mod plain;
 #[allow(dead_code)]
 mod sheets;
 mod tally;
 
-use cards::mixed;
 use sheets::{damage, random_entries, refusal, sheet, Entry, Random};
 use std::collections::{BTreeSet, HashMap};
 use std::fs;
@@ -315,7 +312,6 @@ fn random_sheets(c: &mut Tally, p: &Paths) {
     let (mut same, mut public, mut no_step) = (0, 0, 0);
     for _ in 0..100 {
         let (entries, heard, goal) = random_entries(&mut r, 24);
-        let entries = mixed(&mut r, entries);
         let (bytes, heads) = (sheet(&entries, &heard, goal), heads(&entries));
         let names: HashMap<String, usize> = (0..entries.len()).map(|i| (i.to_string(), i)).collect();
         let heard: Vec<usize> = heard.iter().map(|entry| usize::from(*entry)).collect();

@@ -6,14 +6,9 @@
 // Needs `maude` on the path. Not part of the gate: it measures, and fails only when verdicts differ.
 
 #[allow(dead_code)]
-mod cards;
+mod sheets;
 #[allow(dead_code)]
 mod kinds;
-#[allow(dead_code)]
-mod plain;
-#[allow(dead_code)]
-mod sheets;
-use cards::mixed;
 use kinds::Parts;
 use sheets::{random_entries, sheet, Entry, Random};
 use std::fs::{create_dir_all, write};
@@ -30,7 +25,8 @@ const FOLDER: &str = "target/maude";
 const FORMS: [&str; 3] = ["search", "rewrite", "eliminate"];
 
 // Terms, sets of terms, and the rules but for sums. `st(K, W, G)`: the known terms, the sheet's terms not known yet, and the goal. At the start the
-// public atoms and the heard messages are known. Each rule moves a term from W to K. A sum is flat and has no zero in it, because zero is the identity; Maude applies B + B = zero to any two of its parts.
+// public atoms and the heard messages are known. Each rule moves a term from W to K. A sum is flat and has no zero in it, because zero is the
+// identity; Maude applies B + B = zero to any two of its parts.
 const RULES: &str = "
   sorts Base Term Set State .
   subsorts Base < Term < Set .
@@ -224,8 +220,7 @@ fn row(kind: &str, parts: &Parts, late: &mut [bool; 3]) -> usize {
 fn agreement(sheets: usize) -> usize {
     let (mut r, mut reached, mut late, mut wrong) = (Random(2026), 0, 0, 0);
     for i in 0..sheets {
-        let (entries, heard, goal) = random_entries(&mut r, 10);
-        let parts = (mixed(&mut r, entries), heard, goal);
+        let parts = random_entries(&mut r, 10);
         let (answer, _) = library(&parts);
         reached += (answer < 2000) as usize;
         for form in FORMS {
