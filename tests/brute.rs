@@ -158,8 +158,8 @@ fn names_as_heard(t: &mut Tally) {
             named[usize::from(*i)] = Entry::Atom(i % 16);
             hidden[usize::from(*i)] = Entry::Atom(2000 + i % 16);
         }
-        let late = [names.clone(), heard.clone()].concat();
-        let sheets = [sheet(&named, &heard, goal), sheet(&hidden, &late, goal)];
+        let names_first = [names.clone(), heard.clone()].concat();
+        let sheets = [sheet(&named, &heard, goal), sheet(&hidden, &names_first, goal)];
         for cut in [0, heard.len() / 2, heard.len()] {
             for budget in [0, 7, 256] {
                 let mut outs = [(); 2].map(|_| vec![0xa5u8; 32 + 40 * budget]);

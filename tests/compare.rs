@@ -1,6 +1,6 @@
 // The library as it stands and that of an earlier revision, whose symbols are renamed: every answer and every byte is compared, on sheets
-// good and damaged, small and large, that the change leaves alone. Then the benchmark, built once over each archive, is run over both in turn. For changes that leave calls
-// alone. Built by tests/compare; not part of the gate, since it needs the earlier archive.
+// good and damaged, small and large, that the change leaves alone. Then the benchmark, built once over each archive, is run over both in turn.
+// For changes that leave calls alone. Built by tests/compare; not part of the gate, since it needs the earlier archive.
 
 #[allow(dead_code)]
 mod sheets;
@@ -35,7 +35,7 @@ struct Tally {
     passed_over: u64, // sheets that the change is about
 }
 
-// A sheet that the change leaves alone. Request E2 is about good sheets with atoms 0 to 255 on them.
+// A sheet that the change leaves alone, to be said anew for each change. Request E2 is about good sheets with atoms 0 to 255 on them.
 fn left_alone(s: &[u8]) -> bool {
     let number = |at: usize| usize::from(u16::from_be_bytes([s[at], s[at + 1]]));
     refusal(s) != 0 || (0..number(4)).map(|i| number(10 + 4 * i)).all(|at| s[at] != 1 || number(at + 1) > 255)

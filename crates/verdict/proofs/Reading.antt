@@ -1,6 +1,6 @@
 -- What a caller may conclude from the number that comes back, for every good sheet. Each statement is drawn from a field of `Meets` alone.
--- Shown: `passes-derivable`; `reached-derivable`; `out-underivable`; `public-reached`, a public atom as goal; `out-exact`, `reached-exact`, with a budget of at least the number of entries;
--- `stopped-used-up`, `steps-few`, `steps-fields`. Assumes nothing.
+-- Shown: `passes-derivable`; `reached-derivable`; `out-underivable`; `public-reached`, where the goal is a public atom; `out-exact`, `reached-exact`, with a
+-- budget of at least the number of entries; `stopped-used-up`, `steps-few`, `steps-fields`. Assumes nothing.
 use mathlib.Core.Path.{_≡_, refl, sym, ap, _∙_}
 use mathlib.Core.Logic.{_↔_}
 use mathlib.Core.List.{List, List·Memᴰ}
