@@ -4,6 +4,8 @@
 
 #![allow(dead_code)] // the tests use one form, the benchmark both
 
+use super::sheets::FRONT;
+
 const NO_STEP: u32 = 1 << 24;
 
 type Set = [u64; 4];
@@ -194,7 +196,7 @@ fn run(t: &Tables, s: &mut State, remainders: &mut [Set; 256], goal: u8, budget:
         if made == budget {
             return 3000 + made;
         }
-        put_rung(&mut out[32 + 40 * made as usize..], t, s, x);
+        put_rung(&mut out[FRONT + 40 * made as usize..], t, s, x);
         let (before, head) = (s.len, (x >> 16) as u8);
         s.learn(head, &t.sets[head as usize]);
         s.sweep_added(before, &mut remainders[..t.n]);
@@ -214,7 +216,7 @@ fn judge<const BY_VALUE: bool>(sheet: &[u8], cut: u32, budget: u32, out: &mut [u
     if budget > 256 {
         return 9;
     }
-    if out.len() < 32 + 40 * budget as usize {
+    if out.len() < FRONT + 40 * budget as usize {
         return 10;
     }
     let t = tables(sheet);
@@ -234,7 +236,10 @@ fn judge<const BY_VALUE: bool>(sheet: &[u8], cut: u32, budget: u32, out: &mut [u
         s.sweep_added(before, &mut remainders[..t.n]);
     }
     let answer = run(&t, &mut s, &mut remainders, t.reps[at(8)], budget, out);
-    put_set(&mut out[..32], &s.known);
+    let (remainder, used) = if answer / 1000 == 2 { s.reduce(&t.sets[at(8)]) } else { ([0; 4], [0; 4]) };
+    for (set, place) in [s.known, used, remainder].iter().zip(out[..FRONT].chunks_exact_mut(32)) {
+        put_set(place, set);
+    }
     answer
 }
 

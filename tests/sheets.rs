@@ -1,4 +1,7 @@
-// Sheets as bytes, and a generator of random ones. Shared by the tests; it knows the format of document 01 and nothing of the library.
+// Sheets as bytes, and a generator of random ones. Shared by the tests; it knows the formats of documents 01 and 02 and nothing of the library.
+
+// The bytes of a call's buffer before its first rung: the gained set, the used set and the remainder, 32 bytes each (document 02, E5).
+pub const FRONT: usize = 96;
 
 #[derive(Clone, Debug)]
 pub enum Entry {
