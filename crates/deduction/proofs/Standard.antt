@@ -12,7 +12,7 @@ use lib.Dec.{eqb}
 use borrow.Author.Tests.{eqb-true, eqb-false}
 use Rattle.deduction.specs.Term.{sumOf, _≈_}
 use Rattle.deduction.specs.Entry.{Entry, termAt, Downward}
-use Rattle.deduction.specs.Standard.{xorAll, setAt, repAt, sumOfSet}
+use Rattle.deduction.specs.Standard.{xorAll, setAt, repAt, StandardSet, sumOfSet}
 use Rattle.deduction.proofs.Elimination.Spans.{xorOver, Span}
 use Rattle.deduction.proofs.Coding.{code, same-code}
 use Rattle.deduction.proofs.Pieces.{by-code}
@@ -21,7 +21,7 @@ use Rattle.deduction.proofs.Standard.Least.{least-le, least-found, leas
 use Rattle.deduction.proofs.Standard.Sets.{xorAll-same}
 use Rattle.deduction.proofs.Standard.Members.{xorAll-member}
 use Rattle.deduction.proofs.Standard.Codes.{codeAt, code-sumOf, code-sumOfSet, xorOver-all, code-set}
-use Rattle.deduction.proofs.Standard.Independent.{StandardSet, set-standard, standard-sets-same}
+use Rattle.deduction.proofs.Standard.Independent.{set-standard, standard-sets-same}
 pub mod Least
 pub mod Sets
 pub mod First
@@ -91,12 +91,12 @@ module _ (e : ℕ → Entry) (n : ℕ) (down : Downward e n) where
 
   module _ (js : List ℕ) (below : (j : ℕ) → List·Memᴰ j js → j < n) where
     -- the code of a sum of entries' terms
-    code-items : code (sumOf (map (termAt e) js)) ≡ xorOver (codeAt e) n (xorAll (setAt e) js)
+    pub code-items : code (sumOf (map (termAt e) js)) ≡ xorOver (codeAt e) n (xorAll (setAt e) js)
     code-items =
         code-sumOf (termAt e) js ∙ xorAll-same (codeAt e) (λ j. xorOver (codeAt e) n (setAt e j)) js (λ j m. code-set e n down j (below j m))
         ∙ sym (xorOver-all (codeAt e) (setAt e) n js)
 
-    items-standard : StandardSet e n (xorAll (setAt e) js)
+    pub items-standard : StandardSet e n (xorAll (setAt e) js)
     items-standard k m = let r = xorAll-member (setAt e) js k m in set-standard e n down (r .0) (below (r .0) (r .1)) k (r .2)
 
     -- a term is a sum of terms exactly when its set is the sum of their sets

@@ -44,6 +44,7 @@ pub mod Run
 pub mod Start
 pub mod Course
 pub mod Fields
+pub mod Missing
 
 module _ (e : ℕ → Entry) (n : ℕ) (down : Downward e n) where
   -- steps in a row, each the next, replay from the terms of the known heads

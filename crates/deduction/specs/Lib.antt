@@ -1,5 +1,5 @@
 -- Reading order: terms and their equality, what an intruder can derive, the terms of a sheet's entries, their sets of standard entries and their
--- representatives, the steps in their order, the course of the work, and the replay. Then the elimination that decides sums and the run: what the program
+-- representatives, the steps in their order, the course of the work, the replay, and what is missing of an entry. Then the elimination that decides sums and the run: what the program
 -- computes, which nobody has to believe for a verdict (`run-course`, proofs/Steps/Course.antt).
 pub mod Term
 pub mod Derivation
@@ -8,5 +8,6 @@ pub mod Standard
 pub mod Step
 pub mod Course
 pub mod Replay
+pub mod Missing
 pub mod Elimination
 pub mod Run

@@ -1,7 +1,8 @@
 -- Each entry's set of standard entries and its representative (document 01: head), computed from the entries alone.
--- Defined: `setAt`, `repAt`, `standard`, `sumOfSet`. A set of entries is one number (crate `bitset`).
-use Prim.Native.Nat.{ℕ, zero, suc, _^_}
-use mathlib.Core.Bool.{Bool, _&&_, not, cond}
+-- Defined: `setAt`, `repAt`, `standard`, `StandardSet`, `sumOfSet`. A set of entries is one number (crate `bitset`).
+use Prim.Native.Nat.{ℕ, zero, suc, _^_, _<_}
+use mathlib.Core.Path.{_≡_}
+use mathlib.Core.Bool.{Bool, true, _&&_, not, cond}
 use mathlib.Core.List.{List, [], _∷_, _++_}
 use lib.Bits.{bitXor}
 use lib.Dec.{eqb, ltb}
@@ -67,6 +68,10 @@ repAt e i = least (λ j. eqb (setAt e j) (setAt e i)) i
 -- "A standard entry is a head of kind 1, 2 or 3"
 unfoldable pub standard : (ℕ → Entry) → ℕ → Bool
 standard e i = eqb (repAt e i) i && not (eqb (shape (setAt e) (e i) .kind) 0)
+
+-- a set of standard entries below n
+abbrev pub StandardSet : (ℕ → Entry) → ℕ → ℕ → Type 0
+StandardSet e n u = (k : ℕ) → member u k ≡ true → (k < n) × (standard e k ≡ true)
 
 -- the sum of the terms of a set's members below n
 unfoldable pub sumOfSet : (ℕ → Term) → ℕ → ℕ → Term

@@ -1,12 +1,15 @@
 -- Derivations from one start, joined.
--- Shown: what is held stays held; two derivations from one start join to one that holds what each holds, and so do finitely many; every entry
--- that steps within the sheet reach is derivable. Assumes nothing.
-use mathlib.Core.Path.{refl, sym, subst}
+-- Shown: what is held stays held; two derivations from one start join to one that holds what each holds, and so do finitely many; sums of
+-- derivable terms are derivable; every entry that steps within the sheet reach is derivable. Assumes nothing.
+use mathlib.Core.Path.{_≡_, refl, sym, subst}
+use mathlib.Core.Bool.{Bool, true, false, cond}
 use mathlib.Core.Logic.{⊎-elim}
-use mathlib.Core.List.{List, [], _∷_, map, List·Memᴰ, List·Memᴰ·head, List·Memᴰ·tail, List·Memᴰ·cases-cons, List·Memᴰ·not-nil, Memᴰ·map, Memᴰ·of-map}
-use Prim.Native.Nat.{ℕ}
-use Rattle.deduction.specs.Term.{Term, _≈_, same, flip, then}
+use mathlib.Core.List.{List, [], _∷_, map, List·Memᴰ, List·Memᴰ·head, List·Memᴰ·tail, List·Memᴰ·cases-cons, List·Memᴰ·not-nil, List·Memᴰ·eq-of-singleton, Memᴰ·map, Memᴰ·of-map}
+use Prim.Native.Nat.{ℕ, zero, suc}
+use Rattle.bitset.specs.Set.{member}
+use Rattle.deduction.specs.Term.{Term, _⊕_, sumOf, _≈_, unit, in-sum, same, flip, then}
 use Rattle.deduction.specs.Derivation.{Holds, Derivation, Derivable, begin, first, second, decrypt, join, encrypt, sum}
+use Rattle.deduction.specs.Standard.{sumOfSet}
 use Rattle.deduction.proofs.Exactness.Within.{Reach}
 
 -- every term of g is a term of h
@@ -69,6 +72,29 @@ derived {g} {a} d e = (a ∷ g, d, (a, List·Memᴰ·head refl, e))
 
 held-same : {g : List Term} {a b : Term} → Holds g a → a ≈ b → Holds g b
 held-same (u, m, p) q = (u, m, then p q)
+
+-- the same for derivable terms, and for sums of them
+pub derive-same : {start : List Term} {a b : Term} → Derivable start a → a ≈ b → Derivable start b
+derive-same (g, d, h) e = (g, d, held-same h e)
+
+pub derive-sum : {start : List Term} {a b : Term} → Derivable start a → Derivable start b → Derivable start (a ⊕ b)
+unfolding sumOf
+derive-sum {start} {a} {b} p q =
+    let (g, d, h, k) = derive-both p q in
+    derived (sum (a ∷ b ∷ []) d (both g h k)) (in-sum same unit)
+  where
+    both : (g : List Term) → Holds g a → Holds g b → (u : Term) → List·Memᴰ u (a ∷ b ∷ []) → Holds g u
+    both g h k u m =
+        ⊎-elim (λ r. subst (Holds g) (sym r) h) (λ r. subst (Holds g) (sym (List·Memᴰ·eq-of-singleton r)) k) (List·Memᴰ·cases-cons m)
+
+pub derive-set : {start : List Term} (t : ℕ → Term) (n u : ℕ) → ((j : ℕ) → member u j ≡ true → Derivable start (t j)) → Derivable start (sumOfSet t n u)
+unfolding sumOfSet sumOf
+derive-set {start} t zero u h = derived (sum [] begin (λ v m. absurd (List·Memᴰ·not-nil m))) same
+derive-set {start} t (suc n) u h = go (member u n) refl (derive-set t n u h)
+  where
+    go : (b : Bool) → member u n ≡ b → Derivable start (sumOfSet t n u) → Derivable start (cond b (t n ⊕ sumOfSet t n u) (sumOfSet t n u))
+    go true p r = derive-sum (h n p) r
+    go false p r = r
 
 pub reach-derivable : (t : ℕ → Term) (n : ℕ) (start : List ℕ) (i : ℕ) → Reach t n start i → Derivable (map t start) (t i)
 reach-derivable t n start i (Reach.begin m) = (map t start, begin, (t i, Memᴰ·map t m, same))

@@ -1,5 +1,4 @@
 -- Standard entries are linearly independent.
--- Defined: `StandardSet`, a set of standard entries below n.
 -- Shown: entries of kind 1 to 3 with one place have one shape; so a set of standard entries whose codes sum to nothing is empty, and two
 -- such sets with one sum are equal. The proof goes up the entries: the parts of an entry come before it. Assumes nothing.
 use mathlib.Core.Path.{_≡_, refl, sym, ap, _∙_}
@@ -15,7 +14,7 @@ use borrow.Author.Tests.{eqb-false}
 use Rattle.bitset.specs.Set.{member}
 use Rattle.bitset.proofs.Laws.Sums.{member-part, sum-empty-same}
 use Rattle.deduction.specs.Entry.{Entry, Zero, Atom, Pair, Enc, Sum, parts, Downward}
-use Rattle.deduction.specs.Standard.{Shape, shape, setAt, standard}
+use Rattle.deduction.specs.Standard.{Shape, shape, setAt, StandardSet}
 use Rattle.deduction.proofs.Elimination.Spans.{xorOver}
 use Rattle.deduction.proofs.Coding.{bit, place-same}
 use Rattle.deduction.proofs.Elimination.Sums.{xorOver-sum}
@@ -23,10 +22,6 @@ use Rattle.deduction.proofs.Standard.First.{shapeAt, first, Plain, firs
 use Rattle.deduction.proofs.Standard.Members.{members-le, members-standard, standard-first}
 use Rattle.deduction.proofs.Standard.Codes.{codeAt, part, placeOf, code-place}
 use Rattle.deduction.proofs.Standard.Places.{places-empty}
-
--- a set of standard entries below n
-abbrev pub StandardSet : (ℕ → Entry) → ℕ → ℕ → Type 0
-StandardSet e n u = (k : ℕ) → member u k ≡ true → (k < n) × (standard e k ≡ true)
 
 module _ (e : ℕ → Entry) (n : ℕ) (down : Downward e n) where
   -- a shape of kind 2 or 3 has the sets of two earlier entries

@@ -10,7 +10,7 @@ use lib.Bits.{bitXor, xor-zero-r}
 use Rattle.bitset.specs.Set.{member}
 use Rattle.deduction.specs.Term.{_⊕_, sumOf, _≈_}
 use Rattle.deduction.specs.Entry.{Entry, termAt, Downward}
-use Rattle.deduction.specs.Standard.{setAt, sumOfSet}
+use Rattle.deduction.specs.Standard.{setAt, StandardSet, sumOfSet}
 use Rattle.deduction.specs.Elimination.{Knowledge, reduce}
 use Rattle.deduction.proofs.Elimination.Spans.{xorOver, Independent}
 use Rattle.deduction.proofs.Coding.{code, code-sum, same-code}
@@ -20,16 +20,16 @@ use Rattle.deduction.proofs.Elimination.Sums.{xorOver-sum, xorOver-xorO
 use Rattle.deduction.proofs.Elimination.State.{Learnt}
 use Rattle.deduction.proofs.Standard.{span-sum}
 use Rattle.deduction.proofs.Standard.Codes.{codeAt, code-sumOfSet, code-set}
-use Rattle.deduction.proofs.Standard.Independent.{StandardSet, set-standard, standard-sets-same}
+use Rattle.deduction.proofs.Standard.Independent.{set-standard, standard-sets-same}
 
 module _ (e : ℕ → Entry) (n : ℕ) (down : Downward e n) where
   -- the code of a sum over any set of entries, through their sets
-  code-over : (u : ℕ) → code (sumOfSet (termAt e) n u) ≡ xorOver (codeAt e) n (xorOver (setAt e) n u)
+  pub code-over : (u : ℕ) → code (sumOfSet (termAt e) n u) ≡ xorOver (codeAt e) n (xorOver (setAt e) n u)
   code-over u =
       code-sumOfSet (termAt e) n u ∙ xorOver-same (codeAt e) (λ j. xorOver (codeAt e) n (setAt e j)) n u (λ j l. code-set e n down j l)
       ∙ sym (xorOver-xorOver (codeAt e) (setAt e) n n u)
 
-  over-standard : (u : ℕ) → StandardSet e n (xorOver (setAt e) n u)
+  pub over-standard : (u : ℕ) → StandardSet e n (xorOver (setAt e) n u)
   over-standard u k m = let r = xorOver-member (setAt e) n u k m in set-standard e n down (r .0) (r .1) k (r .3)
 
   -- a term is the sum over a set of entries exactly when its set is the sum of their sets

@@ -1,0 +1,161 @@
+-- What is missing of an entry: the sum test finds it, and there is only one.
+-- Shown: `missing-found`, used set and remainder of the sum test are what is missing of an entry; `missing-is`, whatever is missing is these two sets, so
+-- `missing-unique`. No entry of the remainder is known (`remainder-unknown`); the remainder isn't empty where no step follows and the entry isn't known
+-- (`missing-some`); who can derive its sum can derive the entry's term (`missing-enough`). Assumes nothing.
+use mathlib.Core.Path.{_≡_, refl, sym, ap, ap₂, _∙_, subst}
+use mathlib.Core.Bool.{Bool, true, false, true≢false}
+use mathlib.Core.List.{List, [], _∷_, map, List·Memᴰ, List·Memᴰ·eq-of-singleton, Memᴰ·map}
+use Prim.Native.Nat.{ℕ, _<_}
+use native.Mathlib.Nat.{lt-of-lt-of-le}
+use native.Mathlib.Omega.{arith}
+use lib.Pow.{pow-pos}
+use lib.Bits.{bitXor, xor-zero-r}
+use borrow.Author.Tests.{eq-eqb}
+use Rattle.bitset.specs.Set.{member, leading}
+use Rattle.bitset.proofs.Laws.Member.{member-empty, member-single, member-le}
+use Rattle.bitset.proofs.Laws.Leading.{leading-member, leading-top}
+use Rattle.bitset.proofs.Laws.Sums.{sum-move}
+use Rattle.deduction.specs.Term.{Term, _⊕_, sumOf, _≈_, unit, flip, then}
+use Rattle.deduction.specs.Derivation.{Holds, Derivable}
+use Rattle.deduction.specs.Entry.{Entry, termAt, Downward}
+use Rattle.deduction.specs.Standard.{xorAll, setAt, repAt, standard, StandardSet, sumOfSet}
+use Rattle.deduction.specs.Elimination.{Reduced, Knowledge, reduce}
+use Rattle.deduction.specs.Step.{Step, step, unused, Follows}
+use Rattle.deduction.specs.Missing.{Leads, Missing}
+use Rattle.deduction.proofs.Elimination.Spans.{Span, NoLeading, xorOver, Independent}
+use Rattle.deduction.proofs.Elimination.Sums.{xorOver-empty, xorOver-sum, xorOver-span, xorAll-span, span-xorAll}
+use Rattle.deduction.proofs.Elimination.Reduce.{reduce-both, reduce-none}
+use Rattle.deduction.proofs.Elimination.State.{Learnt, independent-learnt}
+use Rattle.deduction.proofs.Elimination.{reduce-sum, used-independent, used-unique, remainder-no-leading, remainder-unique, row-span, row-nonempty}
+use Rattle.deduction.proofs.Coding.{code, code-sum, same-code}
+use Rattle.deduction.proofs.Pieces.{by-code}
+use Rattle.deduction.proofs.Exactness.Derive.{derive-same, derive-sum, derive-set}
+use Rattle.deduction.proofs.Standard.{set-sum, rep-same, code-items, items-standard}
+use Rattle.deduction.proofs.Standard.Members.{members-le, standard-set}
+use Rattle.deduction.proofs.Standard.Codes.{codeAt, code-sumOfSet, code-set}
+use Rattle.deduction.proofs.Standard.Independent.{set-standard, sum-standard, standard-sets-same}
+use Rattle.deduction.proofs.Standard.SumTest.{code-over, over-standard, sum-test-total}
+use Rattle.deduction.proofs.Steps.Head.{rep-is-head}
+use Rattle.deduction.proofs.Steps.Drawn.{drawn-independent}
+
+module _ (e : ℕ → Entry) (n : ℕ) (down : Downward e n) {es : List ℕ} {k : Knowledge} (l : Learnt (setAt e) n es k) where
+  -- the set of a sum of known terms is in the span of their sets
+  leads-span : {j : ℕ} (w : Leads e n es j) → Span (map (setAt e) es) (w .set)
+  leads-span w =
+      let below : (j : ℕ) → List·Memᴰ j (w .items) → j < n = λ j m. l .below j (w .known j m) in
+      let one : xorAll (setAt e) (w .items) ≡ w .set =
+      standard-sets-same e n down (xorAll (setAt e) (w .items)) (w .set) (items-standard e n down (w .items) below) (w .standards)
+      (sym (code-items e n down (w .items) below) ∙ same-code (w .same) ∙ code-sumOfSet (termAt e) n (w .set)) in
+      subst (Span (map (setAt e) es)) one (xorAll-span (setAt e) es (w .items) (w .known))
+
+  -- and the highest-numbered entry of a set is its leading one
+  leads-leading : {j : ℕ} (w : Leads e n es j) → leading (w .set) ≡ j
+  leads-leading {j} w =
+      let some : 0 < w .set = lt-of-lt-of-le (pow-pos j) (member-le (w .set) j (w .inside)) in
+      omega (arith, w .highest (leading (w .set)) (leading-member (w .set) some), leading-top (w .set) j (w .inside))
+
+  leads-some : {j : ℕ} (w : Leads e n es j) → ¬ (w .set ≡ 0)
+  leads-some {j} w z = true≢false (sym (w .inside) ∙ ap (λ (s : ℕ). member s j) z ∙ member-empty j)
+
+  -- a set in the span that isn't empty has a leading entry, which leads
+  span-leads : (w : ℕ) → Span (map (setAt e) es) w → ¬ (w ≡ 0) → Leads e n es (leading w)
+  span-leads w h some =
+      let (js, known, is) = span-xorAll (setAt e) es h in
+      let below : (j : ℕ) → List·Memᴰ j js → j < n = λ j m. l .below j (known j m) in
+      record {
+        items = js;
+        known = known;
+        set = w;
+        standards = subst (StandardSet e n) is (items-standard e n down js below);
+        same = by-code (code-items e n down js below ∙ ap (xorOver (codeAt e) n) is ∙ sym (code-sumOfSet (termAt e) n w));
+        inside = leading-member w (omega arith);
+        highest = λ j m. leading-top w j m;
+      }
+
+  -- a known standard entry leads
+  known-leads : (j : ℕ) → j < n → standard e j ≡ true → List·Memᴰ j es → Leads e n es j
+  unfolding sumOf
+  known-leads j low s c =
+      record {
+        items = j ∷ [];
+        known = λ x m. subst (λ (y : ℕ). List·Memᴰ y es) (sym (List·Memᴰ·eq-of-singleton m)) c;
+        set = setAt e j;
+        standards = set-standard e n down j low;
+        same = then unit (set-sum e n down j low);
+        inside = ap (λ (x : ℕ). member x j) (standard-set e n down j low s) ∙ member-single j j ∙ eq-eqb j j refl;
+        highest = λ x m. members-le e n down j low x m;
+      }
+
+  module _ (i : ℕ) (low : i < n) where
+    -- the sum test finds what is missing
+    pub missing-found : Missing e n es i (reduce (k .rows) (setAt e i) .used) (reduce (k .rows) (setAt e i) .remainder)
+    missing-found =
+        record {
+          total = sum-test-total e n down l i low;
+          drawn = λ j m. drawn-independent e n down es (l .below) j .1 (used-independent l (setAt e i) j m);
+          standards = subst (StandardSet e n) (sym (sum-move (xorOver (setAt e) n used) remainder (setAt e i) (reduce-sum l (setAt e i))))
+              (sum-standard e n down (xorOver (setAt e) n used) (setAt e i) (over-standard e n down used) (set-standard e n down i low));
+          bare = λ j m w.
+              true≢false (sym m ∙ ap (member remainder) (sym (leads-leading w)) ∙ remainder-no-leading l (setAt e i) (w .set) (leads-span w) (leads-some w));
+        }
+      where
+        used : ℕ
+        used = reduce (k .rows) (setAt e i) .used
+
+        remainder : ℕ
+        remainder = reduce (k .rows) (setAt e i) .remainder
+
+    -- whatever is missing is what the sum test finds
+    module _ {u r : ℕ} (m : Missing e n es i u r) where
+      free : (j : ℕ) → member u j ≡ true → Independent (setAt e) es j
+      free j h = drawn-independent e n down es (l .below) j .0 (m .drawn j h)
+
+      -- the entry's set is the sum of the used entries' sets and the remainder
+      split : setAt e i ≡ bitXor (xorOver (setAt e) n u) r
+      split =
+          standard-sets-same e n down (setAt e i) (bitXor (xorOver (setAt e) n u) r) (set-standard e n down i low)
+          (sum-standard e n down (xorOver (setAt e) n u) r (over-standard e n down u) (m .standards))
+          (sym (code-set e n down i low) ∙ same-code (m .total) ∙ code-sum (sumOfSet (termAt e) n u) (sumOfSet (termAt e) n r)
+          ∙ ap₂ bitXor (code-over e n down u) (code-sumOfSet (termAt e) n r) ∙ sym (xorOver-sum (codeAt e) n (xorOver (setAt e) n u) r))
+
+      no-leading : NoLeading (map (setAt e) es) r
+      no-leading w h some = go (member r (leading w)) refl
+        where
+          go : (b : Bool) → member r (leading w) ≡ b → member r (leading w) ≡ false
+          go true p = absurd (m .bare (leading w) p (span-leads w h some))
+          go false p = p
+
+      pub missing-is : (u ≡ reduce (k .rows) (setAt e i) .used) × (r ≡ reduce (k .rows) (setAt e i) .remainder)
+      missing-is =
+          let own = used-unique l (xorOver (setAt e) n u) u free refl .1 in
+          let rest = reduce-none (k .rows) r (λ q c. no-leading (q .vector) (row-span l q c) (row-nonempty l q c)) in
+          let whole = ap (reduce (k .rows)) split ∙ reduce-both (k .rows) (xorOver (setAt e) n u) r in (
+            sym (ap (λ (x : Reduced). x .used) whole ∙ ap₂ bitXor (sym own) (ap (λ (x : Reduced). x .used) rest) ∙ xor-zero-r u),
+            remainder-unique l (setAt e i) (xorOver (setAt e) n u) r split (xorOver-span (setAt e) es n u (λ j h. independent-learnt (free j h))) no-leading,
+          )
+
+      -- no entry of the remainder is known
+      pub remainder-unknown : (j : ℕ) → member r j ≡ true → ¬ List·Memᴰ j es
+      remainder-unknown j h c = let (lj, s) = m .standards j h in m .bare j h (known-leads j lj s c)
+
+      -- where no step follows and the entry isn't known, something remains
+      pub missing-some : ¬ Holds (map (termAt e) es) (termAt e i) → ((s : Step) → ¬ Follows (termAt e) n es s) → ¬ (r ≡ 0)
+      missing-some unknown stuck z =
+          stuck (step (repAt e i) 6 unused unused u)
+          (Follows.sum u (rep-is-head e n down i low, λ c. unknown (termAt e (repAt e i), Memᴰ·map (termAt e) c, rep-same e n down i low)) (m .drawn)
+          (then (rep-same e n down i low) (by-code (same-code (m .total) ∙ without))))
+        where
+          without : code (sumOfSet (termAt e) n u ⊕ sumOfSet (termAt e) n r) ≡ code (sumOfSet (termAt e) n u)
+          without =
+              code-sum (sumOfSet (termAt e) n u) (sumOfSet (termAt e) n r)
+              ∙ ap (bitXor (code (sumOfSet (termAt e) n u))) (code-sumOfSet (termAt e) n r ∙ ap (xorOver (codeAt e) n) z ∙ xorOver-empty (codeAt e) n)
+              ∙ xor-zero-r (code (sumOfSet (termAt e) n u))
+
+      -- with the used terms, who can derive the sum of the remainder's terms can derive the entry's
+      pub missing-enough : (start : List Term) → ((j : ℕ) → member u j ≡ true → Derivable start (termAt e j))
+          → Derivable start (sumOfSet (termAt e) n r) → Derivable start (termAt e i)
+      missing-enough start each rest = derive-same (derive-sum (derive-set (termAt e) n u each) rest) (flip (m .total))
+
+    -- "which makes it unique"
+    pub missing-unique : {u r u′ r′ : ℕ} → Missing e n es i u r → Missing e n es i u′ r′ → (u ≡ u′) × (r ≡ r′)
+    missing-unique m m′ = (missing-is m .0 ∙ sym (missing-is m′ .0), missing-is m .1 ∙ sym (missing-is m′ .1))
