@@ -67,7 +67,7 @@ fn make(
     knowledge::gain(known, rows, len, remainders, n, head, sets[head as usize])
 }
 
-// The run over a good sheet from a state, with its steps written from byte 32 of out on.
+// The run over a good sheet from a state, with its steps written from byte `front` of out on.
 pub fn run(
     s: &[u8],
     keys: &[u64; 256],
@@ -78,10 +78,11 @@ pub fn run(
     len: usize,
     remainders: &mut [[u64; 4]; 256],
     budget: u16,
+    front: usize,
     out: &mut [u8],
 ) -> Ended
-    requires { ⌜ Ready (now s) (now keys) (now sets) (now reps) known (now rows) len (now remainders) budget (now out) ⌝ }
-    ensures { λ r. ⌜ Ran (now (s .entry)) known (now (rows .entry)) len (now (remainders .entry)) budget (now (out .entry)) r (now (rows .exit)) (now (remainders .exit)) (now (out .exit)) ⌝ }
+    requires { ⌜ Ready (now s) (now keys) (now sets) (now reps) known (now rows) len (now remainders) budget front (now out) ⌝ }
+    ensures { λ r. ⌜ Ran (now (s .entry)) known (now (rows .entry)) len (now (remainders .entry)) budget front (now (out .entry)) r (now (rows .exit)) (now (remainders .exit)) (now (out .exit)) ⌝ }
 {
     let n = sheet::count(s) as usize;
     let goal = sheet::goal(s) as u8;
@@ -100,7 +101,7 @@ pub fn run(
         if made == budget {
             return end_as(Verdict::Exhausted, made, have, used);
         }
-        let from = 32 + 40 * (made as usize);
+        let from = front + 40 * (made as usize);
         let learnt = make(
             x,
             keys,

@@ -30,45 +30,45 @@ steps-more [] s = append-nil (stepBytes s)
 steps-more (r ∷ ss) s = ap (λ (l : List ℕ). stepBytes r ++ l) (steps-more ss s) ∙ sym (append-assoc (stepBytes r) (stepsBytes ss) (stepBytes s))
 
 -- the buffer with its first steps written, and the part that begins where the last one ended
-module _ (out₀ : List ℕ) (ss : List Step) (made : ℕ) (many : length ss ≡ made) (space : 32 ≤ length out₀) where
-  front : List ℕ
-  front = take 32 out₀ ++ stepsBytes ss
+module _ (front : ℕ) (out₀ : List ℕ) (ss : List Step) (made : ℕ) (many : length ss ≡ made) (space : front ≤ length out₀) where
+  begun : List ℕ
+  begun = take front out₀ ++ stepsBytes ss
 
-  front-length : length front ≡ 32 + 40 * made
-  unfolding front
-  front-length =
-      length-append (take 32 out₀) (stepsBytes ss)
-      ∙ ap₂ _+_ (length-take-le 32 out₀ space) (steps-length ss ∙ ap (λ (n : ℕ). 40 * n) many)
+  begun-length : length begun ≡ front + 40 * made
+  unfolding begun
+  begun-length =
+      length-append (take front out₀) (stepsBytes ss)
+      ∙ ap₂ _+_ (length-take-le front out₀ space) (steps-length ss ∙ ap (λ (n : ℕ). 40 * n) many)
 
-  pub written-more : (out out′ : List ℕ) (s : Step) → out ≡ take 32 out₀ ++ (stepsBytes ss ++ drop (32 + 40 * made) out₀)
-      → out′ ≡ take (32 + 40 * made) out ++ (stepBytes s ++ drop 40 (drop (32 + 40 * made) out))
-      → out′ ≡ take 32 out₀ ++ (stepsBytes (ss ++ (s ∷ [])) ++ drop (32 + 40 * (made + 1)) out₀)
-  unfolding front
+  pub written-more : (out out′ : List ℕ) (s : Step) → out ≡ take front out₀ ++ (stepsBytes ss ++ drop (front + 40 * made) out₀)
+      → out′ ≡ take (front + 40 * made) out ++ (stepBytes s ++ drop 40 (drop (front + 40 * made) out))
+      → out′ ≡ take front out₀ ++ (stepsBytes (ss ++ (s ∷ [])) ++ drop (front + 40 * (made + 1)) out₀)
+  unfolding begun
   written-more out out′ s p q =
       q
-      ∙ ap₂ (λ (a b : List ℕ). a ++ (stepBytes s ++ drop 40 b)) (ap (take (32 + 40 * made)) whole ∙ take-at front rest (32 + 40 * made) front-length)
-      (ap (drop (32 + 40 * made)) whole ∙ drop-at front rest (32 + 40 * made) front-length)
-      ∙ append-assoc (take 32 out₀) (stepsBytes ss) (stepBytes s ++ drop 40 rest)
-      ∙ ap (λ (l : List ℕ). take 32 out₀ ++ l)
+      ∙ ap₂ (λ (a b : List ℕ). a ++ (stepBytes s ++ drop 40 b)) (ap (take (front + 40 * made)) whole ∙ take-at begun rest (front + 40 * made) begun-length)
+      (ap (drop (front + 40 * made)) whole ∙ drop-at begun rest (front + 40 * made) begun-length)
+      ∙ append-assoc (take front out₀) (stepsBytes ss) (stepBytes s ++ drop 40 rest)
+      ∙ ap (λ (l : List ℕ). take front out₀ ++ l)
       (sym (append-assoc (stepsBytes ss) (stepBytes s) (drop 40 rest))
-      ∙ ap₂ _++_ (sym (steps-more ss s)) (drop-drop 40 (32 + 40 * made) out₀ ∙ ap (λ (n : ℕ). drop n out₀) later))
+      ∙ ap₂ _++_ (sym (steps-more ss s)) (drop-drop 40 (front + 40 * made) out₀ ∙ ap (λ (n : ℕ). drop n out₀) later))
     where
       rest : List ℕ
-      rest = drop (32 + 40 * made) out₀
+      rest = drop (front + 40 * made) out₀
 
-      whole : out ≡ front ++ rest
-      whole = p ∙ sym (append-assoc (take 32 out₀) (stepsBytes ss) rest)
+      whole : out ≡ begun ++ rest
+      whole = p ∙ sym (append-assoc (take front out₀) (stepsBytes ss) rest)
 
-      later : 32 + 40 * made + 40 ≡ 32 + 40 * (made + 1)
+      later : front + 40 * made + 40 ≡ front + 40 * (made + 1)
       later = omega arith
 
-  pub written-length : (out : List ℕ) → out ≡ take 32 out₀ ++ (stepsBytes ss ++ drop (32 + 40 * made) out₀) → 32 + 40 * made ≤ length out₀ → length out ≡ length out₀
-  unfolding front
+  pub written-length : (out : List ℕ) → out ≡ take front out₀ ++ (stepsBytes ss ++ drop (front + 40 * made) out₀) → front + 40 * made ≤ length out₀ → length out ≡ length out₀
+  unfolding begun
   written-length out p h =
-      ap length (p ∙ sym (append-assoc (take 32 out₀) (stepsBytes ss) (drop (32 + 40 * made) out₀)))
-      ∙ length-append front (drop (32 + 40 * made) out₀)
-      ∙ ap₂ _+_ front-length (length-drop (32 + 40 * made) out₀)
-      ∙ back (32 + 40 * made) (length out₀) h
+      ap length (p ∙ sym (append-assoc (take front out₀) (stepsBytes ss) (drop (front + 40 * made) out₀)))
+      ∙ length-append begun (drop (front + 40 * made) out₀)
+      ∙ ap₂ _+_ begun-length (length-drop (front + 40 * made) out₀)
+      ∙ back (front + 40 * made) (length out₀) h
     where
       back : (a b : ℕ) → a ≤ b → a + (b - a) ≡ b
       back a b l = omega arith

@@ -27,7 +27,7 @@ verdictOf Exhausted = theory.exhausted
 abbrev pub endAs : Verdict → ℕ → List ℕ → ℕ → program.Ended
 endAs v made known len = record { verdict = v; made = made; known = known; len = len }
 
-pub record Ready (s keys : List ℕ) (sets : List (List ℕ)) (reps known rows : List ℕ) (len : ℕ) (remainders : List (List ℕ)) (budget : ℕ) (out : List ℕ) : Type 0 where
+pub record Ready (s keys : List ℕ) (sets : List (List ℕ)) (reps known rows : List ℕ) (len : ℕ) (remainders : List (List ℕ)) (budget front : ℕ) (out : List ℕ) : Type 0 where
   pub good : refusal s ≡ 0
   pub right : Right (entryAt s) (countOf s) keys sets reps
   pub sized : Sized keys sets reps
@@ -36,18 +36,18 @@ pub record Ready (s keys : List ℕ) (sets : List (List ℕ)) (reps known rows :
   pub room : Room known len
   pub cache : Remainders (setAt (entryAt s)) (countOf s) rows len remainders
   pub limit : budget ≤ 256
-  pub space : 32 + 40 * budget ≤ length out
+  pub space : front + 40 * budget ≤ length out
 
 -- the run from the state that the words hold
 abbrev pub endOf : List ℕ → ℕ → List ℕ → List ℕ → ℕ → Ended
 endOf s budget known rows len = machine (entryAt s) (countOf s) (goalOf s) budget (stateOf known rows len)
 
-pub record Ran (s known rows : List ℕ) (len : ℕ) (remainders : List (List ℕ)) (budget : ℕ) (out : List ℕ) (r : program.Ended) (rows′ : List ℕ) (remainders′ : List (List ℕ)) (out′ : List ℕ) : Type 0 where
+pub record Ran (s known rows : List ℕ) (len : ℕ) (remainders : List (List ℕ)) (budget front : ℕ) (out : List ℕ) (r : program.Ended) (rows′ : List ℕ) (remainders′ : List (List ℕ)) (out′ : List ℕ) : Type 0 where
   pub verdict : verdictOf (r .verdict) ≡ endOf s budget known rows len .verdict
   pub count : r .made ≡ length (endOf s budget known rows len .steps)
   pub state : stateOf (r .known) rows′ (r .len) ≡ endOf s budget known rows len .final
-  -- "40 bytes a rung .. Later bytes keep their values"
-  pub bytes : out′ ≡ take 32 out ++ (stepsBytes (endOf s budget known rows len .steps) ++ drop (32 + 40 * r .made) out)
+  -- "40 bytes a rung .. Later bytes keep their values". The steps begin at byte `front`
+  pub bytes : out′ ≡ take front out ++ (stepsBytes (endOf s budget known rows len .steps) ++ drop (front + 40 * r .made) out)
   pub room : Room (r .known) (r .len)
   pub kept : SameOutside (8 * len) (8 * r .len) rows rows′
   pub cache : Remainders (setAt (entryAt s)) (countOf s) rows′ (r .len) remainders′

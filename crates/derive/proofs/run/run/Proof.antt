@@ -32,12 +32,12 @@ use Rattle.derive.proofs.run.run.Statement.{statement}
 use Rattle.derive.proofs.run.run.Tie as tie
 
 abbrev Inv-loop : tie.InvT-loop
-Inv-loop s keys sets reps rows₀ len remainders₀ budget out₀ n goal head have₀ used₀ made₀ rows remainders out have used made =
-    (n ≡ countOf s) × (head ≡ repAt (entryAt s) (goalOf s)) × Ready s keys sets reps have₀ rows₀ used₀ remainders₀ budget out₀
-    × Along s have₀ rows₀ used₀ remainders₀ budget out₀ have rows used remainders made out × (used ≤ 256)
+Inv-loop s keys sets reps rows₀ len remainders₀ budget front out₀ n goal head have₀ used₀ made₀ rows remainders out have used made =
+    (n ≡ countOf s) × (head ≡ repAt (entryAt s) (goalOf s)) × Ready s keys sets reps have₀ rows₀ used₀ remainders₀ budget front out₀
+    × Along s have₀ rows₀ used₀ remainders₀ budget front out₀ have rows used remainders made out × (used ≤ 256)
 
 abbrev μ-loop : tie.MeasureT-loop
-μ-loop s keys sets reps rows₀ len remainders₀ budget out₀ n goal head have₀ used₀ made₀ rows remainders out have used made =
+μ-loop s keys sets reps rows₀ len remainders₀ budget front out₀ n goal head have₀ used₀ made₀ rows remainders out have used made =
     budget - made
 
 -- the buffer keeps its length, and has the place of the next step
@@ -45,10 +45,10 @@ kept : (c : tie.At-loop Inv-loop μ-loop) → length (c .loop .out) ≡ length (
 kept c =
     let a = c .loop .inv .3 in
     let r = c .loop .inv .2 in
-    written-length (now (c .before .before .before .before .before .before .args .out)) (a .done) (c .loop .made) (a .many) (omega (arith, r .space)) (c .loop .out) (a .bytes)
+    written-length (c .before .before .before .before .before .before .args .front) (now (c .before .before .before .before .before .before .args .out)) (a .done) (c .loop .made) (a .many) (omega (arith, r .space)) (c .loop .out) (a .bytes)
     (omega (arith, r .space, a .within))
 
-space : (c : tie.At-loop Inv-loop μ-loop) → 32 + 40 * c .loop .made ≤ length (c .loop .out)
+space : (c : tie.At-loop Inv-loop μ-loop) → c .before .before .before .before .before .before .args .front + 40 * c .loop .made ≤ length (c .loop .out)
 space c = omega (arith, kept c, c .loop .inv .2 .space, c .loop .inv .3 .within)
 
 -- the test whether the goal is known, and the number found, are the theory's
@@ -73,7 +73,7 @@ less : (c : tie.Else3 Inv-loop μ-loop) → c .before .before .before .before .b
 less c = omega (arith, c .if3 .left, c .before .before .before .before .before .before .loop .inv .3 .within)
 
 next-place : (c : tie.Else3 Inv-loop μ-loop)
-    → 32 + 40 * c .before .before .before .before .before .before .loop .made + 40 ≤ length (c .before .before .before .before .before .before .loop .out)
+    → c .before .before .before .before .before .before .before .before .before .before .before .before .args .front + 40 * c .before .before .before .before .before .before .loop .made + 40 ≤ length (c .before .before .before .before .before .before .loop .out)
 next-place c =
     let a = c .before .before .before .before .before .before in
     omega (arith, less c, kept a, a .loop .inv .2 .space)
@@ -119,7 +119,7 @@ loop-holds c = let s = c .before .before .before .before .before in (
   c .before .before .count .ensures,
   ap (λ (i : ℕ). getD (now (s .args .reps)) i 0) (c .before .goal .ensures) ∙ s .pre .right .rep (goalOf (now (s .args .s))) (good (now (s .args .s)) (s .pre .good) .goal),
   s .pre,
-  along-start (now (s .args .s)) (now (s .args .keys)) (now (s .args .sets)) (now (s .args .reps)) (s .args .known) (now (s .args .rows)) (s .args .len) (now (s .args .remainders)) (s .args .budget) (now (s .args .out)) (s .pre),
+  along-start (now (s .args .s)) (now (s .args .keys)) (now (s .args .sets)) (now (s .args .reps)) (s .args .known) (now (s .args .rows)) (s .args .len) (now (s .args .remainders)) (s .args .budget) (s .args .front) (now (s .args .out)) (s .pre),
   rows-first s,
 )
 
@@ -177,7 +177,7 @@ part-make-end c = search needs
 make-requires : tie.Need-make-requires Inv-loop μ-loop
 make-requires c κs = let a = c .before .before .before .before .before .before .before .before .before in
     let s = c .before .before .before .before .before .before .before .before .before .before .before .before .before .before .before in
-    (a .loop .inv .3 .kept .size ∙ s .pre .words, a .loop .inv .3 .others .size ∙ s .pre .lines, few a, a .loop .inv .4, a .loop .inv .3 .room, part-room (a .loop .out) (32 + 40 * a .loop .made) 40 (next-place (c .before .before .before)))
+    (a .loop .inv .3 .kept .size ∙ s .pre .words, a .loop .inv .3 .others .size ∙ s .pre .lines, few a, a .loop .inv .4, a .loop .inv .3 .room, part-room (a .loop .out) (s .args .front + 40 * a .loop .made) 40 (next-place (c .before .before .before)))
 
 add-made : tie.Need-add-made Inv-loop μ-loop
 add-made c = omega (arith, c .before .before .before .before .before .before .before .before .before .before .before .before .before .loop .inv .3 .within, c .before .before .before .before .before .before .before .before .before .before .before .before .before .loop .inv .2 .limit)
@@ -203,7 +203,7 @@ loop-again c = let a = c .before .before .before .before .before .before .before
           (stepIn (now (s .args .keys)) (now (s .args .sets)) (rowsOf (a .loop .rows) (a .loop .used)) x)
           (sheet-step sh (s .pre .good) bytes (now (s .args .keys)) (now (s .args .sets)) (now (s .args .reps)) (s .pre .right) k x f some)
           (x / 65536 % 256) (value (getD (now (s .args .sets)) (x / 65536 % 256) [])) hd (s .pre .right .set (x / 65536 % 256) (subst (λ (i : ℕ). i < countOf sh) (sym hd) (sheet-below sh (s .pre .good) bytes (now (s .args .keys)) (now (s .args .sets)) (now (s .args .reps)) (s .pre .right) k x f some)))
-          _ _ _ _ _ (m .ensures .1 .0) (part-back (a .loop .out) (32 + 40 * a .loop .made) (stepBytes (stepIn (now (s .args .keys)) (now (s .args .sets)) (rowsOf (a .loop .rows) (a .loop .used)) x)) (m .last .1 .1 .1 .1 .1 .1 .1 .1 .0) (m .ensures .0)) (m .ensures .1 .1 .0) (m .ensures .1 .1 .1 .0)
+          _ _ _ _ _ (m .ensures .1 .0) (part-back (a .loop .out) (s .args .front + 40 * a .loop .made) (stepBytes (stepIn (now (s .args .keys)) (now (s .args .sets)) (rowsOf (a .loop .rows) (a .loop .used)) x)) (m .last .1 .1 .1 .1 .1 .1 .1 .1 .0) (m .ensures .0)) (m .ensures .1 .1 .0) (m .ensures .1 .1 .1 .0)
           (subst (λ (n : ℕ). (g : ℕ → ℕ) → Remainders g n (a .loop .rows) (a .loop .used) (a .loop .remainders) → Remainders g n (m .last .1 .1 .1 .1 .0) (m .result .len) (m .last .1 .1 .1 .1 .1 .1 .0)) (a .loop .inv .0) (m .ensures .1 .1 .1 .1 .0))
           (subst (λ (n : ℕ). SameOutside 0 n (a .loop .remainders) (m .last .1 .1 .1 .1 .1 .1 .0)) (a .loop .inv .0) (m .ensures .1 .1 .1 .1 .1)),
       rows-more (c .before .before .before),
