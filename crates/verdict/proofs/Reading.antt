@@ -20,7 +20,8 @@ use Rattle.dag.specs.Refusal.{refusal}
 use Rattle.dag.proofs.Laws.Good.{good}
 use Rattle.start.specs.Start.{startHeads, startTerms}
 use Rattle.start.proofs.Public.{public-start}
-use Rattle.verdict.specs.Demands.{verdictCode, goalTerm, stepsIn, gainedHeads, Passes, Meets}
+use Rattle.verdict.specs.Buffer.{stepsIn}
+use Rattle.verdict.specs.Demands.{verdictCode, goalTerm, gainedHeads, Passes, Meets}
 use Rattle.verdict.proofs.Laws.Demands.{start-is-heads}
 use Rattle.verdict.proofs.Unique.{steps-count}
 

@@ -8,9 +8,8 @@ use mathlib.Core.Logic.{inl, inr, _↔_}
 use mathlib.Core.List.{List, [], _∷_, _++_, map, List·Memᴰ, List·Memᴰ·head, List·Memᴰ·not-nil, List·Memᴰ·cases-cons}
 use Prim.Native.Nat.{ℕ, zero, suc, _+_, _≤_, _<_}
 use native.Mathlib.Omega.{arith}
-use lib.ListN.{length, take, getD}
+use lib.ListN.{length, getD}
 use Rattle.bitset.specs.Set.{member, insert, highest, leading}
-use Rattle.bitset.specs.Words.{setOf}
 use Rattle.deduction.specs.Term.{Term, enc, _≈_}
 use Rattle.deduction.specs.Derivation.{Holds}
 use Rattle.deduction.specs.Entry.{parts, terms, termAt, build}
@@ -29,7 +28,8 @@ use Rattle.dag.specs.Record.{entryAt, fits, decodeAs}
 use Rattle.dag.specs.Refusal.{when, orElse, first, equal, anyFrom, noSheet, badCount, shortList, badPair, badPairs, badRecord, badRecords, notListed, refusal}
 use Rattle.dag.proofs.Laws.Good.{good}
 use Rattle.start.specs.Start.{isPublic, publicHeads, startEntries, startHeads, startTerms}
-use Rattle.verdict.specs.Demands.{verdictCode, stepsIn, Passes, Meets}
+use Rattle.verdict.specs.Buffer.{gainedIn, stepsIn}
+use Rattle.verdict.specs.Demands.{verdictCode, Passes, Meets}
 use Rattle.verdict.specs.Answer.{outcomeOf}
 use Rattle.verdict.specs.Card.{head, sheetA, sheet255, sheet256, sheetTwice, sheetMasked, sumStep, openStep, unmaskStep}
 use Rattle.verdict.proofs.Unique.{as-run, answer-run, known-run}
@@ -67,9 +67,9 @@ module _ {s : List ℕ} {cut budget : ℕ} {es : List ℕ} {ss : List Step} {v :
   only-steps : stepsIn out (m .count) ≡ ss
   only-steps = as-run s cut budget (r .0) (r .1) m .0 ∙ r .3
 
-  only-known : (e : ℕ) → (member (setOf (take 32 out)) e ≡ true) ↔ List·Memᴰ e (es ++ map (λ (x : Step). x .head) ss)
+  only-known : (e : ℕ) → (member (gainedIn out) e ≡ true) ↔ List·Memᴰ e (es ++ map (λ (x : Step). x .head) ss)
   only-known =
-      subst (λ (l : List ℕ). (e : ℕ) → (member (setOf (take 32 out)) e ≡ true) ↔ List·Memᴰ e l)
+      subst (λ (l : List ℕ). (e : ℕ) → (member (gainedIn out) e ≡ true) ↔ List·Memᴰ e l)
       (ap₂ (λ (l : List ℕ) (t : List Step). l ++ map (λ (x : Step). x .head) t) (r .2) (r .3))
       (known-run s cut budget (r .0) (r .1) m)
 
@@ -91,14 +91,14 @@ module _ (old out : List ℕ) where
   step-copied m p = omega (arith, ap (λ (l : List Step). getD l 1 sumStep .head) (sym (only-steps (runs .0) m) ∙ p))
 
   -- at cut 2 the heads 2 and 4 are gained and no other
-  pub head-too-many : {answer : ℕ} → Meets sheetA 2 256 old out answer → ¬ (member (setOf (take 32 out)) 0 ≡ true)
+  pub head-too-many : {answer : ℕ} → Meets sheetA 2 256 old out answer → ¬ (member (gainedIn out) 0 ≡ true)
   head-too-many m p =
       elim (List·Memᴰ·cases-cons (only-known (runs .2) m 0 .0 p)) [
         | inl q ↦ omega arith
         | inr q ↦ elim (List·Memᴰ·cases-cons q) [ inl z ↦ omega arith | inr z ↦ List·Memᴰ·not-nil z ]
       ]
 
-  pub head-too-few : {answer : ℕ} → Meets sheetA 2 256 old out answer → ¬ (member (setOf (take 32 out)) 2 ≡ false)
+  pub head-too-few : {answer : ℕ} → Meets sheetA 2 256 old out answer → ¬ (member (gainedIn out) 2 ≡ false)
   head-too-few m p = true≢false (sym (only-known (runs .2) m 2 .1 (List·Memᴰ·head refl)) ∙ p)
 
   -- out of reach before the last rung, with what was heard for the gained set
@@ -113,7 +113,7 @@ module _ (old out : List ℕ) where
   other-reached k l m = omega (arith, only-answer (runs .5) m)
 
   -- atom 0 twice: its head is gained, and the second entry isn't in the gained set
-  pub own-number : {answer : ℕ} → Meets sheetTwice 0 0 old out answer → ¬ (member (setOf (take 32 out)) 1 ≡ true)
+  pub own-number : {answer : ℕ} → Meets sheetTwice 0 0 old out answer → ¬ (member (gainedIn out) 1 ≡ true)
   own-number m p = elim (List·Memᴰ·cases-cons (only-known (runs .6) m 1 .0 p)) [ inl q ↦ omega arith | inr q ↦ List·Memᴰ·not-nil q ]
 
   -- the heard messages gained ahead of the public atom: the sum would draw on entries 0, 2 and 4

@@ -1,5 +1,5 @@
 -- The demands alone determine the call.
--- Shown: `meets-unique`, two answers and buffers that meet the demands for one sheet, cut and budget have equal numbers, rungs and gained sets;
+-- Shown: `meets-unique`, two answers and buffers that meet the demands for one sheet, cut and budget have equal numbers, rungs and sets;
 -- `demands-equations`, for a buffer of bytes of the old length the demands hold exactly when answer and buffer are those of the equations with the run, refused or not;
 -- `demands-unique`, so they determine every byte. So nobody has to believe the run or the elimination. Assumes nothing.
 use mathlib.Core.Path.{_≡_, refl, sym, ap, ap₂, _∙_, subst}
@@ -9,13 +9,13 @@ use mathlib.Core.List.{List, _++_, map, List·Memᴰ}
 use Prim.Native.Nat.{ℕ, zero, suc, _+_, _*_, _≤_}
 use native.Mathlib.Decide.{ℕ-discrete}
 use native.Mathlib.Omega.{arith}
-use lib.ListN.{length, take, drop, length-append}
+use lib.ListN.{length, drop, length-append}
 use Rattle.bitset.specs.Set.{member}
-use Rattle.bitset.specs.Words.{setOf, bytesOf}
 use Rattle.bitset.proofs.Laws.Member.{same-members}
 use Rattle.bitset.proofs.Laws.Words.{Below}
 use Rattle.deduction.specs.Step.{Step}
 use Rattle.deduction.specs.Run.{Outcome, knowledge}
+use Rattle.deduction.specs.Missing.{Missing}
 use Rattle.deduction.proofs.Steps.{course-unique}
 use Rattle.deduction.proofs.Steps.Course.{course-budget}
 use Rattle.dag.specs.Sheet.{countOf, goalOf, traceLength}
@@ -24,11 +24,12 @@ use Rattle.dag.specs.Refusal.{refusal}
 use Rattle.dag.proofs.Laws.Good.{good}
 use Rattle.derive.specs.Bytes.{stepsBytes}
 use Rattle.start.specs.Start.{startHeads}
+use Rattle.verdict.specs.Buffer.{front, gainedIn, usedIn, remainderIn, stepsIn}
 use Rattle.verdict.specs.Refused.{refusalOf}
-use Rattle.verdict.specs.Demands.{verdictCode, stepsIn, Meets, Demanded}
-use Rattle.verdict.specs.Answer.{outcomeOf, answerOf, bufferOf}
+use Rattle.verdict.specs.Demands.{verdictCode, Meets, Demanded}
+use Rattle.verdict.specs.Answer.{outcomeOf, answerOf, missingOf, frontBytes, frontOf, bufferOf}
 use Rattle.verdict.proofs.Laws.Readback.{buffer-back}
-use Rattle.verdict.proofs.Laws.Demands.{start-is-heads, run-is-course}
+use Rattle.verdict.proofs.Laws.Demands.{start-is-heads, run-is-course, missing-only}
 use Rattle.verdict.proofs.Laws.Answered.{ok-sheet, ok-cut, ok-space, refused-answer, refused-buffer, equations-demand, accepted-answer, accepted-buffer, accepted-known, accepted-meets}
 
 -- as many steps as are read
@@ -47,20 +48,6 @@ sets-equal a b f g = same-members a b (λ e. go (member a e) (member b e) (λ p.
     go false false p q = refl
 
 module _ (s : List ℕ) (cut budget : ℕ) (ok : refusal s ≡ 0) (within : cut ≤ traceLength s) where
-  module _ {old old′ out out′ : List ℕ} {answer answer′ : ℕ} (m : Meets s cut budget old out answer) (m′ : Meets s cut budget old′ out′ answer′) where
-    one-course : (stepsIn out (m .count) ≡ stepsIn out′ (m′ .count)) × (m .verdict ≡ m′ .verdict)
-    one-course = course-unique (entryAt s) (countOf s) (good s ok .downward) (goalOf s) (start-is-heads s cut budget ok within) (m .course) (m′ .course)
-
-    pub one-count : m .count ≡ m′ .count
-    one-count = sym (steps-count out (m .count)) ∙ ap length (one-course .0) ∙ steps-count out′ (m′ .count)
-
-    pub meets-unique : (answer ≡ answer′) × (stepsIn out (m .count) ≡ stepsIn out′ (m′ .count)) × (setOf (take 32 out) ≡ setOf (take 32 out′))
-    meets-unique = (
-      m .coded ∙ ap₂ (λ v k. verdictCode v + k) (one-course .1) one-count ∙ sym (m′ .coded),
-      one-course .0,
-      sets-equal _ _ (m .known) (subst (λ (ss : List Step). (e : ℕ) → (member (setOf (take 32 out′)) e ≡ true) ↔ List·Memᴰ e (startHeads s cut ++ map (λ (r : Step). r .head) ss)) (sym (one-course .0)) (m′ .known)),
-    )
-
   -- what meets the demands is what the run makes
   module _ {old out : List ℕ} {answer : ℕ} (m : Meets s cut budget old out answer) where
     pub as-run : (stepsIn out (m .count) ≡ outcomeOf s cut budget .steps) × (m .verdict ≡ outcomeOf s cut budget .verdict)
@@ -74,8 +61,29 @@ module _ (s : List ℕ) (cut budget : ℕ) (ok : refusal s ≡ 0) (within : cut 
     pub answer-run : answer ≡ verdictCode (outcomeOf s cut budget .verdict) + length (outcomeOf s cut budget .steps)
     answer-run = m .coded ∙ ap₂ (λ v k. verdictCode v + k) (as-run .1) count-run
 
-    pub known-run : (e : ℕ) → (member (setOf (take 32 out)) e ≡ true) ↔ List·Memᴰ e (startHeads s cut ++ map (λ (r : Step). r .head) (outcomeOf s cut budget .steps))
-    known-run = subst (λ (ss : List Step). (e : ℕ) → (member (setOf (take 32 out)) e ≡ true) ↔ List·Memᴰ e (startHeads s cut ++ map (λ (r : Step). r .head) ss)) (as-run .0) (m .known)
+    pub known-run : (e : ℕ) → (member (gainedIn out) e ≡ true) ↔ List·Memᴰ e (startHeads s cut ++ map (λ (r : Step). r .head) (outcomeOf s cut budget .steps))
+    known-run = subst (λ (ss : List Step). (e : ℕ) → (member (gainedIn out) e ≡ true) ↔ List·Memᴰ e (startHeads s cut ++ map (λ (r : Step). r .head) ss)) (as-run .0) (m .known)
+
+    pub missing-run : (usedIn out ≡ missingOf s cut budget .used) × (remainderIn out ≡ missingOf s cut budget .remainder)
+    missing-run =
+        missing-only s cut budget ok within (as-run .1)
+        (λ p. subst (λ (ss : List Step). Missing (entryAt s) (countOf s) (startHeads s cut ++ map (λ (r : Step). r .head) ss) (goalOf s) (usedIn out) (remainderIn out)) (as-run .0) (m .missing p)) (m .others)
+
+  module _ {old old′ out out′ : List ℕ} {answer answer′ : ℕ} (m : Meets s cut budget old out answer) (m′ : Meets s cut budget old′ out′ answer′) where
+    one-course : (stepsIn out (m .count) ≡ stepsIn out′ (m′ .count)) × (m .verdict ≡ m′ .verdict)
+    one-course = course-unique (entryAt s) (countOf s) (good s ok .downward) (goalOf s) (start-is-heads s cut budget ok within) (m .course) (m′ .course)
+
+    pub one-count : m .count ≡ m′ .count
+    one-count = sym (steps-count out (m .count)) ∙ ap length (one-course .0) ∙ steps-count out′ (m′ .count)
+
+    pub meets-unique : (answer ≡ answer′) × (stepsIn out (m .count) ≡ stepsIn out′ (m′ .count)) × (gainedIn out ≡ gainedIn out′) × (usedIn out ≡ usedIn out′) × (remainderIn out ≡ remainderIn out′)
+    meets-unique = (
+      m .coded ∙ ap₂ (λ v k. verdictCode v + k) (one-course .1) one-count ∙ sym (m′ .coded),
+      one-course .0,
+      sets-equal _ _ (m .known) (subst (λ (ss : List Step). (e : ℕ) → (member (gainedIn out′) e ≡ true) ↔ List·Memᴰ e (startHeads s cut ++ map (λ (r : Step). r .head) ss)) (sym (one-course .0)) (m′ .known)),
+      missing-run m .0 ∙ sym (missing-run m′ .0),
+      missing-run m .1 ∙ sym (missing-run m′ .1),
+    )
 
 -- a call that isn't refused, with a buffer of bytes: what was written is what is read back
 module _ (s : List ℕ) (cut budget : ℕ) (old : List ℕ) (ok : refusalOf s cut budget (length old) ≡ 0) where
@@ -90,20 +98,22 @@ module _ (s : List ℕ) (cut budget : ℕ) (old : List ℕ) (ok : refusalOf s cu
 
   module _ (out : List ℕ) (bytes : Below 8 out) (size : length out ≡ length old) where
     written : {answer : ℕ} (m : Meets s cut budget old out answer)
-        → out ≡ bytesOf 32 (setOf (take 32 out)) ++ (stepsBytes (stepsIn out (m .count)) ++ drop (32 + 40 * m .count) old)
+        → out ≡ frontBytes (gainedIn out) (usedIn out) (remainderIn out) ++ (stepsBytes (stepsIn out (m .count)) ++ drop (front + 40 * m .count) old)
     written m =
         let b : length (stepsIn out (m .count)) ≤ budget = course-budget (m .course) in
-        let room : 32 + 40 * m .count ≤ length out = omega (arith, steps-count out (m .count), ok-space s cut budget (length old) ok) in
-        buffer-back out (m .count) room bytes ∙ ap (λ (rest : List ℕ). bytesOf 32 (setOf (take 32 out)) ++ (stepsBytes (stepsIn out (m .count)) ++ rest)) (m .kept)
+        let room : front + 40 * m .count ≤ length out = omega (arith, steps-count out (m .count), ok-space s cut budget (length old) ok) in
+        buffer-back out (m .count) room bytes ∙ ap (λ (rest : List ℕ). frontBytes (gainedIn out) (usedIn out) (remainderIn out) ++ (stepsBytes (stepsIn out (m .count)) ++ rest)) (m .kept)
 
     -- the demands on such a call give the two equations
     meets-equations : (answer : ℕ) → Meets s cut budget old out answer → (answer ≡ answerOf s cut budget (length old)) × (out ≡ bufferOf s cut budget old)
+    unfolding frontOf
     meets-equations answer m =
         let ss = as-run s cut budget sheet-ok cut-ok m .0 in
         let k = count-run s cut budget sheet-ok cut-ok m in
-        let u : setOf (take 32 out) ≡ knowledge (entryAt s) (o .learnt) .known = meets-unique s cut budget sheet-ok cut-ok m (accepted-meets s cut budget old ok) .2 ∙ accepted-known s cut budget old ok in (
+        let u : gainedIn out ≡ knowledge (entryAt s) (o .learnt) .known = meets-unique s cut budget sheet-ok cut-ok m (accepted-meets s cut budget old ok) .2 ∙ accepted-known s cut budget old ok in
+        let (used, remainder) = missing-run s cut budget sheet-ok cut-ok m in (
           answer-run s cut budget sheet-ok cut-ok m ∙ sym (accepted-answer s cut budget old ok),
-          written m ∙ (λ i. bytesOf 32 (u i) ++ (stepsBytes (ss i) ++ drop (32 + 40 * k i) old)) ∙ sym (accepted-buffer s cut budget old ok),
+          written m ∙ (λ i. frontBytes (u i) (used i) (remainder i) ++ (stepsBytes (ss i) ++ drop (front + 40 * k i) old)) ∙ sym (accepted-buffer s cut budget old ok),
         )
 
 -- refused or not: an answer and a buffer of bytes are as demanded exactly when they are those of the equations

@@ -1,27 +1,29 @@
--- The starred cases of the flight card, and cases of document 02: sheet, cut, budget and buffer length; the answer, the number of known entries, and the
--- rungs. Document 02, E2: "Sheet A and the other cases that use atoms now take 1,000 plus their old numbers, so their printed results hold."
+-- The starred cases of the flight card, and cases of document 02: sheet, cut and budget; the answer, the number of known entries, the used set, the
+-- remainder, and the rungs. The buffer is as long as the budget needs. Document 02, E2: "Sheet A and the other cases that use atoms now take 1,000 plus their old numbers, so their printed results hold."
 -- Defined: `rows`, the table, and `Yields`, what a row claims of the definitions. That every row holds is one theorem (proofs/Card.antt).
-use Prim.Native.Nat.{ℕ}
+use Prim.Native.Nat.{ℕ, _+_, _*_}
 use mathlib.Core.Path.{_≡_}
 use mathlib.Core.List.{List, [], _∷_}
 use lib.Count.{ones}
 use Rattle.deduction.specs.Run.{knowledge}
 use Rattle.dag.specs.Record.{entryAt}
 use Rattle.deduction.specs.Step.{Step, step, unused}
-use Rattle.verdict.specs.Answer.{outcomeOf, answerOf}
+use Rattle.verdict.specs.Buffer.{front}
+use Rattle.verdict.specs.Answer.{outcomeOf, answerOf, missingOf}
 
 pub record Case : Type 0 where
   pub sheet : List ℕ
   pub cut : ℕ
   pub budget : ℕ
-  pub space : ℕ
   pub answer : ℕ
   pub known : ℕ
+  pub used : ℕ
+  pub remainder : ℕ
   pub steps : List Step
 
-case : List ℕ → ℕ → ℕ → ℕ → ℕ → ℕ → List Step → Case
-case s cut budget space answer known steps =
-    record { sheet = s; cut = cut; budget = budget; space = space; answer = answer; known = known; steps = steps }
+case : List ℕ → ℕ → ℕ → ℕ → ℕ → ℕ → ℕ → List Step → Case
+case s cut budget answer known used remainder steps =
+    record { sheet = s; cut = cut; budget = budget; answer = answer; known = known; used = used; remainder = remainder; steps = steps }
 
 -- the letters SHT1, and two-byte numbers
 abbrev pub head : List ℕ → List ℕ
@@ -82,6 +84,36 @@ sheetMasked =
     ∷ 0 ∷ 0 ∷ 0 ∷ 2 ∷ 0 ∷ 4
     ∷ 1 ∷ 3 ∷ 232 ∷ 1 ∷ 0 ∷ 7 ∷ 4 ∷ 0 ∷ 0 ∷ 0 ∷ 1 ∷ 1 ∷ 3 ∷ 233 ∷ 4 ∷ 0 ∷ 1 ∷ 0 ∷ 3 ∷ [])
 
+-- atoms 1,000 and 1,001 as entries 0, 1; entry 2 their sum; heard 2; goal 1
+abbrev pub sheetPad : List ℕ
+sheetPad =
+    head (0 ∷ 3 ∷ 0 ∷ 1 ∷ 0 ∷ 1 ∷ 0 ∷ 24 ∷ 0 ∷ 3 ∷ 0 ∷ 27 ∷ 0 ∷ 3 ∷ 0 ∷ 30 ∷ 0 ∷ 5 ∷ 0 ∷ 2 ∷ 1 ∷ 3 ∷ 232 ∷ 1 ∷ 3 ∷ 233 ∷ 4 ∷ 0 ∷ 0 ∷ 0 ∷ 1 ∷ [])
+
+-- the same, and entry 3 the sum of 1 alone, which is the goal
+abbrev pub sheetOther : List ℕ
+sheetOther =
+    head
+    (0 ∷ 4 ∷ 0 ∷ 1 ∷ 0 ∷ 3 ∷ 0 ∷ 28 ∷ 0 ∷ 3 ∷ 0 ∷ 31 ∷ 0 ∷ 3 ∷ 0 ∷ 34 ∷ 0 ∷ 5 ∷ 0 ∷ 39 ∷ 0 ∷ 3 ∷ 0 ∷ 2
+    ∷ 1 ∷ 3 ∷ 232 ∷ 1 ∷ 3 ∷ 233 ∷ 4 ∷ 0 ∷ 0 ∷ 0 ∷ 1 ∷ 4 ∷ 0 ∷ 1 ∷ [])
+
+-- atoms 1,000, 1,001 and 1,002 as entries 0, 1, 3; entry 2 sum of 0 and 1; entry 4 sum of 1 and 3; heard 2; goal 4
+abbrev pub sheetBelow : List ℕ
+sheetBelow =
+    head
+    (0 ∷ 5 ∷ 0 ∷ 1 ∷ 0 ∷ 4
+    ∷ 0 ∷ 32 ∷ 0 ∷ 3 ∷ 0 ∷ 35 ∷ 0 ∷ 3 ∷ 0 ∷ 38 ∷ 0 ∷ 5 ∷ 0 ∷ 43 ∷ 0 ∷ 3 ∷ 0 ∷ 46 ∷ 0 ∷ 5
+    ∷ 0 ∷ 2
+    ∷ 1 ∷ 3 ∷ 232 ∷ 1 ∷ 3 ∷ 233 ∷ 4 ∷ 0 ∷ 0 ∷ 0 ∷ 1 ∷ 1 ∷ 3 ∷ 234 ∷ 4 ∷ 0 ∷ 1 ∷ 0 ∷ 3 ∷ [])
+
+-- the same atoms; entry 2 sum of 0 and 1; entry 4 sum of 0, 1 and 3; heard 0, 1, 2; goal 4
+abbrev pub sheetDrawn : List ℕ
+sheetDrawn =
+    head
+    (0 ∷ 5 ∷ 0 ∷ 3 ∷ 0 ∷ 4
+    ∷ 0 ∷ 36 ∷ 0 ∷ 3 ∷ 0 ∷ 39 ∷ 0 ∷ 3 ∷ 0 ∷ 42 ∷ 0 ∷ 5 ∷ 0 ∷ 47 ∷ 0 ∷ 3 ∷ 0 ∷ 50 ∷ 0 ∷ 7
+    ∷ 0 ∷ 0 ∷ 0 ∷ 1 ∷ 0 ∷ 2
+    ∷ 1 ∷ 3 ∷ 232 ∷ 1 ∷ 3 ∷ 233 ∷ 4 ∷ 0 ∷ 0 ∷ 0 ∷ 1 ∷ 1 ∷ 3 ∷ 234 ∷ 4 ∷ 0 ∷ 0 ∷ 0 ∷ 1 ∷ 0 ∷ 3 ∷ [])
+
 -- the rungs of sheet A at cut 3: "rung 0 sum 1 2" and "rung 3 open 4 0"
 abbrev pub sumStep : Step
 sumStep = step 0 6 unused unused 6
@@ -96,35 +128,44 @@ unmaskStep = step 3 6 unused unused 18
 unfoldable pub rows : List Case
 unfolding case
 rows =
-    -- the card of sheet A, cut by cut
-    case sheetA 0 256 10272 2000 0 []
-    ∷ case sheetA 1 256 10272 2000 1 []
-    ∷ case sheetA 2 256 10272 2000 2 []
-    -- cases 1 to 3
-    ∷ case sheetA 3 256 10272 1002 5 (sumStep ∷ openStep ∷ [])
-    ∷ case sheetA 2 0 32 2000 2 []
-    ∷ case sheetA 3 0 32 3000 3 []
-    ∷ case sheetA 3 1 72 3001 4 (sumStep ∷ [])
-    ∷ case sheetA 3 2 112 1002 5 (sumStep ∷ openStep ∷ [])
+    -- the card of sheet A, cut by cut; its goal is what is missing
+    case sheetA 0 256 2000 0 0 8 []
+    ∷ case sheetA 1 256 2000 1 0 8 []
+    ∷ case sheetA 2 256 2000 2 0 8 []
+    -- cases 1 to 3; "They are zero for the other verdicts"
+    ∷ case sheetA 3 256 1002 5 0 0 (sumStep ∷ openStep ∷ [])
+    ∷ case sheetA 2 0 2000 2 0 8 []
+    ∷ case sheetA 3 0 3000 3 0 0 []
+    ∷ case sheetA 3 1 3001 4 0 0 (sumStep ∷ [])
+    ∷ case sheetA 3 2 1002 5 0 0 (sumStep ∷ openStep ∷ [])
     -- cases 4 to 8
-    ∷ case sheet4 0 256 10272 1001 1 (step 0 6 unused unused 0 ∷ [])
-    ∷ case sheet5 0 256 10272 1002 2 (step 0 6 unused unused 0 ∷ step 1 4 0 0 0 ∷ [])
-    ∷ case sheet6 1 256 10272 1000 1 []
-    ∷ case sheet7 1 256 10272 2000 1 []
-    ∷ case sheet8 2 256 10272 2000 2 []
+    ∷ case sheet4 0 256 1001 1 0 0 (step 0 6 unused unused 0 ∷ [])
+    ∷ case sheet5 0 256 1002 2 0 0 (step 0 6 unused unused 0 ∷ step 1 4 0 0 0 ∷ [])
+    ∷ case sheet6 1 256 1000 1 0 0 []
+    ∷ case sheet7 1 256 2000 1 0 1 []
+    ∷ case sheet8 2 256 2000 2 0 1 []
     -- document 02, E2: 255 is on the hull label and 256 isn't; twice on the sheet and gained once; a sum draws on what the label shows
-    ∷ case sheet255 0 0 32 1000 1 []
-    ∷ case sheet256 0 0 32 2000 0 []
-    ∷ case sheetTwice 0 0 32 1000 1 []
-    ∷ case sheetMasked 0 256 10272 2000 1 []
-    ∷ case sheetMasked 3 256 10272 1001 5 (unmaskStep ∷ [])
+    ∷ case sheet255 0 0 1000 1 0 0 []
+    ∷ case sheet256 0 0 2000 0 0 1 []
+    ∷ case sheetTwice 0 0 1000 1 0 0 []
+    ∷ case sheetMasked 0 256 2000 1 0 8 []
+    ∷ case sheetMasked 3 256 1001 5 0 0 (unmaskStep ∷ [])
+    -- document 02, E5: of entry 1 the sum 2 is used and entry 0 is missing, and nothing is used before 2 is heard; the same of another entry with its term; a
+    -- highest-numbered entry of a sum below the goal's own; of the terms that are a sum of earlier ones none is used
+    ∷ case sheetPad 0 256 2000 0 0 2 []
+    ∷ case sheetPad 1 256 2000 1 4 1 []
+    ∷ case sheetOther 1 256 2000 1 4 1 []
+    ∷ case sheetBelow 1 256 2000 1 4 9 []
+    ∷ case sheetDrawn 3 256 2000 3 3 8 []
     ∷ []
 
 -- the definitions yield the row
 abbrev pub Yields : Case → Type 0
 Yields c =
-    (answerOf (c .sheet) (c .cut) (c .budget) (c .space) ≡ c .answer)
+    (answerOf (c .sheet) (c .cut) (c .budget) (front + 40 * c .budget) ≡ c .answer)
     × (ones (knowledge (entryAt (c .sheet)) (outcomeOf (c .sheet) (c .cut) (c .budget) .learnt) .known) ≡ c .known)
+    × (missingOf (c .sheet) (c .cut) (c .budget) .used ≡ c .used)
+    × (missingOf (c .sheet) (c .cut) (c .budget) .remainder ≡ c .remainder)
     × (outcomeOf (c .sheet) (c .cut) (c .budget) .steps ≡ c .steps)
 
 abbrev pub AllYield : List Case → Type 0

@@ -1,25 +1,26 @@
 -- The demands on a verdict call, as a statement about whole derivations (document 01, "Rungs", "Ladders and their replay"). Reach, replay and the order
 -- of the rungs start from one list, `startEntries` (`start/specs/Start.antt`): the public atoms on the sheet, then the messages before the cut.
--- Defined: `stepsIn`, the rungs read back from the returned bytes; `Passes`, the replay of them; `Meets`, demands 2 and 3 of an answer and its buffer, the stop
--- rule and every byte; `Demanded`, the whole promise, for refused calls too. Nothing here names the search, the run or the elimination, and the promise
+-- Defined: `Passes`, the replay of the rungs that are read back from the returned bytes; `Meets`, demands 2 and 3 of an answer and its buffer, the stop
+-- rule, what is missing and every byte; `Demanded`, the whole promise, for refused calls too. Nothing here names the search, the run or the elimination, and the promise
 -- alone determines the answer and every byte (`demands-equations`, proofs/Unique.antt).
-use Prim.Native.Nat.{ℕ, zero, suc, _+_, _*_, _≤_}
+use Prim.Native.Nat.{ℕ, _+_, _*_, _≤_}
 use mathlib.Core.Path.{_≡_}
 use mathlib.Core.Bool.{true}
 use mathlib.Core.Logic.{_↔_}
-use mathlib.Core.List.{List, [], _∷_, _++_, map, List·Memᴰ}
-use lib.ListN.{length, take, drop}
+use mathlib.Core.List.{List, _++_, map, List·Memᴰ}
+use lib.ListN.{length, drop}
 use Rattle.bitset.specs.Set.{member}
-use Rattle.bitset.specs.Words.{setOf}
 use Rattle.deduction.specs.Term.{Term}
 use Rattle.deduction.specs.Derivation.{Holds, Derivable}
 use Rattle.deduction.specs.Entry.{termAt}
-use Rattle.deduction.specs.Step.{Step, step}
+use Rattle.deduction.specs.Step.{Step}
 use Rattle.deduction.specs.Course.{Verdict, derivable, underivable, exhausted, Course}
 use Rattle.deduction.specs.Replay.{Replays}
-use Rattle.dag.specs.Sheet.{numberAt, countOf, goalOf}
+use Rattle.deduction.specs.Missing.{Missing}
+use Rattle.dag.specs.Sheet.{countOf, goalOf}
 use Rattle.dag.specs.Record.{entryAt}
 use Rattle.start.specs.Start.{startHeads, startTerms}
+use Rattle.verdict.specs.Buffer.{front, gainedIn, usedIn, remainderIn, stepsIn}
 use Rattle.verdict.specs.Refused.{refusalOf}
 
 -- "1,000 for reached, 2,000 for out of reach, 3,000 for stopped"
@@ -30,15 +31,6 @@ verdictCode exhausted = 3000
 
 abbrev pub goalTerm : List ℕ → Term
 goalTerm s = termAt (entryAt s) (goalOf s)
-
--- a rung read from 40 bytes: "gained head, rule, first source, second source (2 bytes each) and a 32-byte set of summed sources"
-unfoldable pub readStep : List ℕ → Step
-readStep r = step (numberAt r 0) (numberAt r 2) (numberAt r 4) (numberAt r 6) (setOf (take 32 (drop 8 r)))
-
--- the first k rungs of a buffer
-unfoldable pub stepsIn : List ℕ → ℕ → List Step
-stepsIn out zero = []
-stepsIn out (suc k) = stepsIn out k ++ (readStep (drop (32 + 40 * k) out) ∷ [])
 
 -- the heads gained at the start and by the first k rungs of a buffer, in order
 abbrev pub gainedHeads : List ℕ → ℕ → ℕ → List ℕ → List ℕ
@@ -59,9 +51,15 @@ pub record Meets (s : List ℕ) (cut budget : ℕ) (old out : List ℕ) (answer 
   -- demand 2, and the whole stop rule: each rung is the one that document 01's order names, and the work ends where and as document 01 says
   pub course : Course (termAt (entryAt s)) (countOf s) (goalOf s) budget (startHeads s cut) (stepsIn out count) verdict
   -- "32 bytes of gained set (bit of value 2 to the power e mod 8 in byte e div 8, for each gained head e)"
-  pub known : (e : ℕ) → (member (setOf (take 32 out)) e ≡ true) ↔ List·Memᴰ e (gainedHeads s cut count out)
+  pub known : (e : ℕ) → (member (gainedIn out) e ≡ true) ↔ List·Memᴰ e (gainedHeads s cut count out)
+  -- document 02, E5: "For a goal that is out of reach .. the set of gained terms used and the exact remainder", which isn't empty: what is missing of
+  -- the goal when the work has ended
+  pub missing : verdict ≡ underivable → Missing (entryAt s) (countOf s) (gainedHeads s cut count out) (goalOf s) (usedIn out) (remainderIn out)
+  pub lacking : verdict ≡ underivable → ¬ (remainderIn out ≡ 0)
+  -- "They are zero for the other verdicts"
+  pub others : ¬ (verdict ≡ underivable) → (usedIn out ≡ 0) × (remainderIn out ≡ 0)
   -- "Later bytes keep their values"
-  pub kept : drop (32 + 40 * count) out ≡ drop (32 + 40 * count) old
+  pub kept : drop (front + 40 * count) out ≡ drop (front + 40 * count) old
   -- demand 3, with a budget of at least the number of entries: "out of reach exactly when no finite ladder from the messages before the cut
   -- gains the goal, through terms of any size, on the sheet or not"; and document 02, E2: "Reach is measured .. from these atoms and the heard
   -- messages together", which are the terms of the start

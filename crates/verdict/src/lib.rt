@@ -5,15 +5,19 @@ ghost use lib.ListN.{length};
 ghost use Rattle.dag.specs.Sheet.{traceLength};
 ghost use Rattle.dag.specs.Refusal.{refusal};
 ghost use Rattle.dag.specs.Code.{codeOf};
+ghost use Rattle.verdict.specs.Buffer.{front};
 ghost use Rattle.verdict.specs.Refused.{refusalOf};
 ghost use Rattle.verdict.specs.Demands.{Demanded};
 ghost use Rattle.verdict.specs.Answer.{answerOf, bufferOf};
 ghost use Rattle.verdict.specs.Code.{numberOf, madeIn};
 ghost use Rattle.verdict.specs.Inner.Decide.{Decided};
+use crate::front::FRONT;
 use dag::Refusal;
 use dag::sheet;
 use derive::run::Ended;
 use derive::run::Verdict;
+
+pub mod front;
 
 // The answer: refused, or the verdict with the number of steps made (document 01: reached, out of reach, stopped).
 pub enum Answer {
@@ -23,9 +27,9 @@ pub enum Answer {
     Exhausted(u16),
 }
 
-// The verdict on a good sheet, with the steps and the known set written to out.
+// The verdict on a good sheet, with the steps and what stands before them written to out.
 fn decide(s: &[u8], cut: u16, budget: u16, out: &mut [u8]) -> Ended
-    requires { ⌜ (refusal (now s) ≡ 0) × (cut ≤ traceLength (now s)) × (budget ≤ 256) × (32 + 40 * budget ≤ length (now out)) ⌝ }
+    requires { ⌜ (refusal (now s) ≡ 0) × (cut ≤ traceLength (now s)) × (budget ≤ 256) × (front + 40 * budget ≤ length (now out)) ⌝ }
     ensures { λ r. ⌜ Decided (now (s .entry)) cut budget (now (out .entry)) (now (out .exit)) r ⌝ }
 {
     let mut keys = [0u64; 256];
@@ -46,16 +50,20 @@ fn decide(s: &[u8], cut: u16, budget: u16, out: &mut [u8]) -> Ended
         start.len,
         &mut remainders,
         budget,
+        FRONT,
         out,
     );
+    let verdict = ended.verdict;
     let gained = ended.known;
-    let _fits = bitset::write(gained, out);
+    let goal = sheet::goal(s) as usize;
+    let missing = front::missing(verdict, &rows, ended.len, sets[goal]);
+    front::write_front(gained, missing, out);
     ended
 }
 
 // The answer to a call that isn't refused.
 fn judged(s: &[u8], cut: u16, budget: u16, out: &mut [u8]) -> Answer
-    requires { ⌜ (refusal (now s) ≡ 0) × (cut ≤ traceLength (now s)) × (budget ≤ 256) × (32 + 40 * budget ≤ length (now out)) ⌝ }
+    requires { ⌜ (refusal (now s) ≡ 0) × (cut ≤ traceLength (now s)) × (budget ≤ 256) × (front + 40 * budget ≤ length (now out)) ⌝ }
     ensures answer { λ r. ⌜ numberOf r ≡ answerOf (now (s .entry)) cut budget (length (now (out .entry))) ⌝ }
     ensures few { λ r. ⌜ madeIn r ≤ 256 ⌝ }
     ensures bytes { λ _. ⌜ now (out .exit) ≡ bufferOf (now (s .entry)) cut budget (now (out .entry)) ⌝ }
@@ -84,14 +92,14 @@ fn refused(sheet: &[u8], cut: u32, budget: u32, space: usize) -> Refusal
     if 256 < budget {
         return Refusal::OverBudget;
     }
-    if space < 32 + 40 * (budget as usize) {
+    if space < FRONT + 40 * (budget as usize) {
         return Refusal::NoSpace;
     }
     Refusal::Nothing
 }
 
-// The verdict call. A refusal leaves every byte of out; otherwise out gets the known set, 40 bytes a step, and keeps its later bytes. Only as many
-// bytes as the budget needs are lent to what follows. (As it calls itself, the compiler keeps the large tables of `judged` out of its frame: a
+// The verdict call. A refusal leaves every byte of out; otherwise out gets the known set, what is missing, 40 bytes a step, and keeps its later bytes.
+// Only as many bytes as the budget needs are lent to what follows. (As it calls itself, the compiler keeps the large tables of `judged` out of its frame: a
 // refused call needs little stack.)
 pub fn verdict(sheet: &[u8], cut: u32, budget: u32, out: &mut [u8]) -> Answer
     ensures answer { λ r. ⌜ numberOf r ≡ answerOf (now (sheet .entry)) cut budget (length (now (out .entry))) ⌝ }
@@ -99,7 +107,7 @@ pub fn verdict(sheet: &[u8], cut: u32, budget: u32, out: &mut [u8]) -> Answer
     ensures bytes { λ _. ⌜ now (out .exit) ≡ bufferOf (now (sheet .entry)) cut budget (now (out .entry)) ⌝ }
     ensures demands { λ r. ⌜ Demanded (now (sheet .entry)) cut budget (now (out .entry)) (now (out .exit)) (numberOf r) ⌝ }
 {
-    let need = 32 + 40 * (budget as usize);
+    let need = FRONT + 40 * (budget as usize);
     if need < out.len() {
         return verdict(sheet, cut, budget, &mut out[..need]);
     }

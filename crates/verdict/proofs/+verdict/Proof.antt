@@ -9,6 +9,7 @@ use lib.Seq.{length-take-le}
 use borrow.Author.Needs.{needs}
 use denote.Ref.{now}
 use Rattle.dag.proofs.Laws.Good.{good}
+use Rattle.verdict.specs.Buffer.{front}
 use Rattle.verdict.specs.Refused.{refusalOf}
 use Rattle.verdict.proofs.Laws.Answered.{ok-sheet, ok-cut, ok-budget, ok-space, refused-answer, refused-buffer, equations-demand, answer-enough, buffer-enough}
 use borrow.Fn.Kinds.{In}
@@ -42,7 +43,7 @@ longer : (t : ℕ) (c : verdict-lts.Then1 (
   judged-reads.Asked,
   judged-reads.Learnt,
 ) (verdict-at t) verdict.Post)
-    → 32 + 40 * c .before .before .before .args .budget ≤ length (now (c .before .before .before .args .out))
+    → front + 40 * c .before .before .before .args .budget ≤ length (now (c .before .before .before .args .out))
 longer t c = omega arith
 
 -- a call that isn't refused, and what it was given
@@ -114,7 +115,7 @@ verdict-slice-aggregate-verdict : (t : ℕ) → verdict-lts.Need-slice-aggregate
   judged-reads.Learnt,
 ) (verdict-at t) verdict.Post
 verdict-slice-aggregate-verdict t c =
-    let s = c .before .before .before .before .args in sym (length-take-le (32 + 40 * s .budget) (now (s .out)) (longer t (c .before)))
+    let s = c .before .before .before .before .args in sym (length-take-le (front + 40 * s .budget) (now (s .out)) (longer t (c .before)))
 
 verdict-verdict-requires : (t : ℕ) → verdict-lts.Need-verdict-requires (
   verdict-below t,
@@ -128,7 +129,7 @@ verdict-verdict-requires : (t : ℕ) → verdict-lts.Need-verdict-requires (
 ) (verdict-at t) verdict.Post
 verdict-verdict-requires t c κs =
     let s = c .before .before .before .before .args in
-    (omega (arith, length-take-le (32 + 40 * s .budget) (now (s .out)) (longer t (c .before)), c .before .before .before .before .pre .0), tt)
+    (omega (arith, length-take-le (front + 40 * s .budget) (now (s .out)) (longer t (c .before)), c .before .before .before .before .pre .0), tt)
 
 verdict-same-length : (t : ℕ) → verdict-lts.Need-same-length (
   verdict-below t,
@@ -156,7 +157,7 @@ verdict-returns t c =
     let s = c .before .before .before .before .before .before .before .args in
     let e = c .before .before .verdict .ensures in
     let room = longer t (c .before .before .before .before) in
-    let need = 32 + 40 * s .budget in
+    let need = front + 40 * s .budget in
     let a = e .0 ∙ answer-enough (now (s .sheet)) (s .cut) (s .budget) (length (take need (now (s .out)))) (length (now (s .out))) (le-of-eq (sym (length-take-le need (now (s .out)) room))) room in
     let b = ap (λ (x : List ℕ). x ++ drop need (now (s .out))) (e .1 .1 .0) ∙ buffer-enough (now (s .sheet)) (s .cut) (s .budget) (now (s .out)) room in
     (a, (e .1 .0, (b, equations-demand (now (s .sheet)) (s .cut) (s .budget) (now (s .out)) (c .before .before .verdict .last .1 .1 .1 .0 ++ drop need (now (s .out))) _ a b)))

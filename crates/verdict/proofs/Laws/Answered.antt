@@ -11,7 +11,6 @@ use borrow.Author.Tests.{lt-ltb, le-ltb, ltb-false, eq-eqb, ne-eqb}
 use lib.Dec.{ltb, eqb}
 use lib.ListN.{length, take, drop, take-append-drop}
 use lib.Seq.{length-take-le, drop-append-le}
-use Rattle.bitset.specs.Words.{bytesOf, setOf}
 use Rattle.deduction.specs.Run.{Verdict, exhausted, Outcome, knowledge}
 use Rattle.deduction.proofs.Steps.Course.{course-budget}
 use Rattle.dag.specs.Sheet.{countOf, traceLength}
@@ -22,11 +21,12 @@ use Rattle.derive.specs.Bytes.{stepsBytes}
 use Rattle.derive.specs.Inner.Ran.{verdictOf}
 use Rattle.derive.specs.declared.run.Ended.{Ended}
 use Rattle.derive.specs.declared.run.Verdict as program
+use Rattle.verdict.specs.Buffer.{front, gainedIn, usedIn, remainderIn, stepsIn}
 use Rattle.verdict.specs.Refused.{refusalOf}
-use Rattle.verdict.specs.Demands.{verdictCode, stepsIn, Meets, Demanded}
-use Rattle.verdict.specs.Answer.{outcomeOf, answerOf, bufferOf}
+use Rattle.verdict.specs.Demands.{verdictCode, Meets, Demanded}
+use Rattle.verdict.specs.Answer.{outcomeOf, answerOf, missingOf, frontOf, bufferOf}
 use Rattle.verdict.specs.Inner.Decide.{Decided}
-use Rattle.verdict.proofs.Laws.Demands.{few-steps, known-read, steps-read, run-ends, run-is-course, meets}
+use Rattle.verdict.proofs.Laws.Demands.{few-steps, known-read, missing-read, steps-read, run-ends, run-is-course, meets}
 
 module _ (s : List ℕ) (cut budget space : ℕ) where
   row8 : ℕ
@@ -36,7 +36,7 @@ module _ (s : List ℕ) (cut budget space : ℕ) where
   row9 = when (ltb 256 budget) 9
 
   row10 : ℕ
-  row10 = when (ltb space (32 + 40 * budget)) 10
+  row10 = when (ltb space (front + 40 * budget)) 10
 
   pub refused-sheet : (refusal s ≡ 0 → ⊥) → refusal s ≡ refusalOf s cut budget space
   unfolding refusalOf row8 row9 row10
@@ -72,13 +72,13 @@ module _ (s : List ℕ) (cut budget space : ℕ) where
   unfolding row9
   past9 p h l = sym (orElse-none row9 row10 (sym (when-no 9 (le-ltb 256 budget l)))) ∙ past8 p h
 
-  pub refused-space : refusal s ≡ 0 → cut ≤ traceLength s → budget ≤ 256 → space < 32 + 40 * budget → 10 ≡ refusalOf s cut budget space
+  pub refused-space : refusal s ≡ 0 → cut ≤ traceLength s → budget ≤ 256 → space < front + 40 * budget → 10 ≡ refusalOf s cut budget space
   unfolding row10
-  refused-space p h l r = when-yes 10 (lt-ltb space (32 + 40 * budget) r) ∙ past9 p h l
+  refused-space p h l r = when-yes 10 (lt-ltb space (front + 40 * budget) r) ∙ past9 p h l
 
-  pub accepted : refusal s ≡ 0 → cut ≤ traceLength s → budget ≤ 256 → 32 + 40 * budget ≤ space → 0 ≡ refusalOf s cut budget space
+  pub accepted : refusal s ≡ 0 → cut ≤ traceLength s → budget ≤ 256 → front + 40 * budget ≤ space → 0 ≡ refusalOf s cut budget space
   unfolding row10
-  accepted p h l r = when-no 10 (le-ltb space (32 + 40 * budget) r) ∙ past9 p h l
+  accepted p h l r = when-no 10 (le-ltb space (front + 40 * budget) r) ∙ past9 p h l
 
   -- what a call that isn't refused was given
   module _ (ok : refusalOf s cut budget space ≡ 0) where
@@ -101,9 +101,9 @@ module _ (s : List ℕ) (cut budget space : ℕ) where
     unfolding row9
     ok-budget = ltb-false 256 budget (when-zero _ 8 (orElse-zero-left row9 _ rest8))
 
-    pub ok-space : 32 + 40 * budget ≤ space
+    pub ok-space : front + 40 * budget ≤ space
     unfolding row10
-    ok-space = ltb-false space (32 + 40 * budget) (when-zero _ 9 (orElse-zero-right row9 _ rest8))
+    ok-space = ltb-false space (front + 40 * budget) (when-zero _ 9 (orElse-zero-right row9 _ rest8))
 
 -- a refused call
 pub refused-answer : (s : List ℕ) (cut budget space : ℕ) → (refusalOf s cut budget space ≡ 0 → ⊥) → refusalOf s cut budget space ≡ answerOf s cut budget space
@@ -122,8 +122,8 @@ refused-buffer s cut budget old n =
     (ap
     (λ (b : Bool).
     cond b
-    (bytesOf 32 (knowledge (entryAt s) (outcomeOf s cut budget .learnt) .known)
-    ++ (stepsBytes (outcomeOf s cut budget .steps) ++ drop (32 + 40 * length (outcomeOf s cut budget .steps)) old))
+    (frontOf s cut budget
+    ++ (stepsBytes (outcomeOf s cut budget .steps) ++ drop (front + 40 * length (outcomeOf s cut budget .steps)) old))
     old)
     (ne-eqb (refusalOf s cut budget (length old)) 0 n))
 
@@ -141,24 +141,29 @@ module _ (s : List ℕ) (cut budget : ℕ) (old : List ℕ) (ok : refusalOf s cu
       ap (λ (b : Bool). cond b (verdictCode (o .verdict) + length (o .steps)) (refusalOf s cut budget (length old)))
       (eq-eqb (refusalOf s cut budget (length old)) 0 ok)
 
-  pub accepted-buffer : bufferOf s cut budget old ≡ bytesOf 32 gained ++ (stepsBytes (o .steps) ++ drop (32 + 40 * length (o .steps)) old)
+  pub accepted-buffer : bufferOf s cut budget old ≡ frontOf s cut budget ++ (stepsBytes (o .steps) ++ drop (front + 40 * length (o .steps)) old)
   unfolding bufferOf
   accepted-buffer =
-      ap (λ (b : Bool). cond b (bytesOf 32 gained ++ (stepsBytes (o .steps) ++ drop (32 + 40 * length (o .steps)) old)) old)
+      ap (λ (b : Bool). cond b (frontOf s cut budget ++ (stepsBytes (o .steps) ++ drop (front + 40 * length (o .steps)) old)) old)
       (eq-eqb (refusalOf s cut budget (length old)) 0 ok)
 
   pub accepted-few : length (o .steps) ≤ 256
   accepted-few = few-steps s cut budget (ok-sheet s cut budget (length old) ok) (ok-cut s cut budget (length old) ok)
 
-  pub accepted-known : setOf (take 32 (bufferOf s cut budget old)) ≡ gained
+  pub accepted-known : gainedIn (bufferOf s cut budget old) ≡ gained
   accepted-known =
-      ap (λ (b : List ℕ). setOf (take 32 b)) accepted-buffer
-      ∙ known-read s cut budget (ok-sheet s cut budget (length old) ok) (ok-cut s cut budget (length old) ok) (stepsBytes (o .steps) ++ drop (32 + 40 * length (o .steps)) old)
+      ap gainedIn accepted-buffer
+      ∙ known-read s cut budget (ok-sheet s cut budget (length old) ok) (ok-cut s cut budget (length old) ok) (stepsBytes (o .steps) ++ drop (front + 40 * length (o .steps)) old)
+
+  pub accepted-missing : (usedIn (bufferOf s cut budget old) ≡ missingOf s cut budget .used) × (remainderIn (bufferOf s cut budget old) ≡ missingOf s cut budget .remainder)
+  accepted-missing =
+      let (used, remainder) = missing-read s cut budget (ok-sheet s cut budget (length old) ok) (ok-cut s cut budget (length old) ok) (stepsBytes (o .steps) ++ drop (front + 40 * length (o .steps)) old) in
+      (ap usedIn accepted-buffer ∙ used, ap remainderIn accepted-buffer ∙ remainder)
 
   pub accepted-steps : stepsIn (bufferOf s cut budget old) (length (o .steps)) ≡ o .steps
   accepted-steps =
       ap (λ (b : List ℕ). stepsIn b (length (o .steps))) accepted-buffer
-      ∙ steps-read s cut budget (ok-sheet s cut budget (length old) ok) (ok-cut s cut budget (length old) ok) (drop (32 + 40 * length (o .steps)) old)
+      ∙ steps-read s cut budget (ok-sheet s cut budget (length old) ok) (ok-cut s cut budget (length old) ok) (drop (front + 40 * length (o .steps)) old)
 
   pub accepted-meets : Meets s cut budget old (bufferOf s cut budget old) (answerOf s cut budget (length old))
   accepted-meets =
@@ -195,22 +200,22 @@ equations-demand s cut budget old out answer p q =
 
 -- a buffer that is longer than the budget needs: the same answer, and the bytes past the need as they were
 module _ (s : List ℕ) (cut budget : ℕ) where
-  refusal-enough : (a b : ℕ) → 32 + 40 * budget ≤ a → 32 + 40 * budget ≤ b → refusalOf s cut budget a ≡ refusalOf s cut budget b
+  refusal-enough : (a b : ℕ) → front + 40 * budget ≤ a → front + 40 * budget ≤ b → refusalOf s cut budget a ≡ refusalOf s cut budget b
   unfolding refusalOf
   refusal-enough a b ha hb =
       ap (λ (t : Bool). orElse (refusal s) (orElse (when (ltb (traceLength s) cut) 8) (orElse (when (ltb 256 budget) 9) (when t 10))))
-      (le-ltb a (32 + 40 * budget) ha ∙ sym (le-ltb b (32 + 40 * budget) hb))
+      (le-ltb a (front + 40 * budget) ha ∙ sym (le-ltb b (front + 40 * budget) hb))
 
-  pub answer-enough : (a b : ℕ) → 32 + 40 * budget ≤ a → 32 + 40 * budget ≤ b → answerOf s cut budget a ≡ answerOf s cut budget b
+  pub answer-enough : (a b : ℕ) → front + 40 * budget ≤ a → front + 40 * budget ≤ b → answerOf s cut budget a ≡ answerOf s cut budget b
   unfolding answerOf
   answer-enough a b ha hb =
       ap (λ (r : ℕ). cond (eqb r 0) (verdictCode (outcomeOf s cut budget .verdict) + length (outcomeOf s cut budget .steps)) r) (refusal-enough a b ha hb)
 
-  pub buffer-enough : (old : List ℕ) → 32 + 40 * budget ≤ length old → bufferOf s cut budget (take (32 + 40 * budget) old) ++ drop (32 + 40 * budget) old ≡ bufferOf s cut budget old
+  pub buffer-enough : (old : List ℕ) → front + 40 * budget ≤ length old → bufferOf s cut budget (take (front + 40 * budget) old) ++ drop (front + 40 * budget) old ≡ bufferOf s cut budget old
   buffer-enough old h = by-cases (ℕ-discrete (refusalOf s cut budget (length old)) 0) judged refused
     where
       need : ℕ
-      need = 32 + 40 * budget
+      need = front + 40 * budget
 
       part : List ℕ
       part = take need old
@@ -226,12 +231,12 @@ module _ (s : List ℕ) (cut budget : ℕ) where
       judged : refusalOf s cut budget (length old) ≡ 0 → bufferOf s cut budget part ++ drop need old ≡ bufferOf s cut budget old
       judged ok =
           let o : Outcome = outcomeOf s cut budget in
-          let front : List ℕ = bytesOf 32 (knowledge (entryAt s) (o .learnt) .known) in
+          let first : List ℕ = frontOf s cut budget in
           let few : length (o .steps) ≤ budget = course-budget (run-is-course s cut budget (ok-sheet s cut budget (length old) ok) (ok-cut s cut budget (length old) ok)) in
-          let m : ℕ = 32 + 40 * length (o .steps) in
+          let m : ℕ = front + 40 * length (o .steps) in
           ap (λ (b : List ℕ). b ++ drop need old) (accepted-buffer s cut budget part (same ∙ ok))
-          ∙ append-assoc front (stepsBytes (o .steps) ++ drop m part) (drop need old)
-          ∙ ap (λ (b : List ℕ). front ++ b)
+          ∙ append-assoc first (stepsBytes (o .steps) ++ drop m part) (drop need old)
+          ∙ ap (λ (b : List ℕ). first ++ b)
           (append-assoc (stepsBytes (o .steps)) (drop m part) (drop need old)
           ∙ ap (λ (b : List ℕ). stepsBytes (o .steps) ++ b) (sym (drop-append-le m part (drop need old) (omega (arith, length-take-le need old h))) ∙ ap (drop m) (take-append-drop need old)))
           ∙ sym (accepted-buffer s cut budget old ok)

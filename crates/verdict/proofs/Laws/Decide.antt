@@ -1,27 +1,27 @@
 -- From the run over the tables to the verdict on a sheet. Assumes nothing.
 use mathlib.Core.Path.{_≡_, sym, ap, ap₂, _∙_}
-use mathlib.Core.Bool.{cond}
 use mathlib.Core.List.{List, _++_}
 use Prim.Native.Nat.{ℕ, _+_, _*_, _≤_}
 use native.Mathlib.Nat.{le-trans, le-of-eq}
 use native.Mathlib.Omega.{arith}
-use lib.Dec.{leb}
 use lib.ListN.{length, take, drop, length-append}
 use lib.Seq.{drop-at, length-take-le}
-use Rattle.bitset.specs.Words.{value, bytesOf}
-use Rattle.bitset.proofs.Laws.Choice.{when-le}
-use Rattle.deduction.specs.Elimination.{Knowledge}
+use Rattle.bitset.specs.Words.{value}
+use Rattle.deduction.specs.Standard.{setAt}
+use Rattle.deduction.specs.Elimination.{reduce}
 use Rattle.deduction.specs.Step.{Step}
 use Rattle.deduction.specs.Run.{knowledge}
 use Rattle.dag.specs.Sheet.{countOf, goalOf}
 use Rattle.dag.specs.Record.{entryAt}
-use Rattle.knowledge.specs.Inner.State.{stateOf}
+use Rattle.knowledge.specs.Inner.Rows.{rowsOf}
+use Rattle.knowledge.specs.Inner.State.{stateOf, reducedOf}
 use Rattle.derive.specs.Bytes.{stepsBytes}
 use Rattle.derive.specs.Inner.Machine.{Ended, machine}
-use Rattle.derive.specs.Inner.Ran.{endOf, Ran}
+use Rattle.derive.specs.Inner.Ran.{verdictOf, endOf, Ran}
 use Rattle.derive.specs.declared.run.Ended as program
 use Rattle.derive.proofs.Laws.Machine.{asEnded, machine-run}
-use Rattle.verdict.specs.Answer.{outcomeOf}
+use Rattle.verdict.specs.Buffer.{front}
+use Rattle.verdict.specs.Answer.{outcomeOf, missingAs, missingOf, frontBytes, frontOf}
 use Rattle.start.specs.Start.{startHeads}
 use Rattle.verdict.specs.Inner.Decide.{Decided}
 
@@ -30,26 +30,46 @@ module _ (s : List ℕ) (cut budget : ℕ) (known rows : List ℕ) (len : ℕ) (
   unfolding outcomeOf
   ends = ap (machine (entryAt s) (countOf s) (goalOf s) budget) state ∙ machine-run (entryAt s) (countOf s) (goalOf s) budget (startHeads s cut)
 
-  pub decided : (remainders : List (List ℕ)) (out : List ℕ) (r : program.Ended) (rows′ : List ℕ) (remainders′ : List (List ℕ)) (out′ out″ : List ℕ)
-      → Ran s known rows len remainders budget out r rows′ remainders′ out′ → 32 ≤ length out
-      → out″ ≡ cond (leb 32 (length out′)) (bytesOf 32 (value (r .known)) ++ drop 32 out′) out′ → Decided s cut budget out out″ r
-  decided remainders out r rows′ remainders′ out′ out″ ran space written =
-      let steps : endOf s budget known rows len .steps ≡ outcomeOf s cut budget .steps = ap (λ (o : Ended). o .steps) ends in
-      let count : r .made ≡ length (outcomeOf s cut budget .steps) = ran .count ∙ ap length steps in
-      let rest = stepsBytes (endOf s budget known rows len .steps) ++ drop (32 + 40 * r .made) out in
-      let wide : 32 ≤ length out′ =
-      le-trans (le-of-eq (sym (length-take-le 32 out space))) (long (take 32 out) rest out′ (ran .bytes)) in
-      record {
-        verdict = ran .verdict ∙ ap (λ (o : Ended). o .verdict) ends;
-        count = count;
-        bytes =
-            written
-            ∙ when-le 32 (length out′) (bytesOf 32 (value (r .known)) ++ drop 32 out′) out′ wide
-            ∙ ap₂ (λ (a : ℕ) (b : List ℕ). bytesOf 32 a ++ b)
-            (ap (λ (k : Knowledge). k .known) (ran .state) ∙ ap (λ (o : Ended). o .final .known) ends)
-            (ap (drop 32) (ran .bytes) ∙ drop-at (take 32 out) rest 32 (length-take-le 32 out space)
-            ∙ ap₂ (λ (ss : List Step) (m : ℕ). stepsBytes ss ++ drop (32 + 40 * m) out) steps count);
-      }
-    where
-      long : (a b l : List ℕ) → l ≡ a ++ b → length a ≤ length l
-      long a b l p = omega (arith, ap length p ∙ length-append a b)
+  module _ (remainders : List (List ℕ)) (out : List ℕ) (r : program.Ended) (rows′ : List ℕ) (remainders′ : List (List ℕ)) (out′ : List ℕ)
+      (ran : Ran s known rows len remainders budget front out r rows′ remainders′ out′) where
+    verdict : verdictOf (r .verdict) ≡ outcomeOf s cut budget .verdict
+    verdict = ran .verdict ∙ ap (λ (o : Ended). o .verdict) ends
+
+    final : stateOf (r .known) rows′ (r .len) ≡ knowledge (entryAt s) (outcomeOf s cut budget .learnt)
+    final = ran .state ∙ ap (λ (o : Ended). o .final) ends
+
+    steps : endOf s budget known rows len .steps ≡ outcomeOf s cut budget .steps
+    steps = ap (λ (o : Ended). o .steps) ends
+
+    count : r .made ≡ length (outcomeOf s cut budget .steps)
+    count = ran .count ∙ ap length steps
+
+    -- the buffer keeps room for its front
+    pub long : front ≤ length out → front ≤ length out′
+    long space = le-trans (le-of-eq (sym (length-take-le front out space))) (at-least (take front out) _ out′ (ran .bytes))
+      where
+        at-least : (a b l : List ℕ) → l ≡ a ++ b → length a ≤ length l
+        at-least a b l p = omega (arith, ap length p ∙ length-append a b)
+
+    -- the sum test of the goal's set by the rows at the end is what is missing
+    missing : (goal remainder used : List ℕ) → value goal ≡ setAt (entryAt s) (goalOf s)
+        → reducedOf remainder used ≡ missingAs (verdictOf (r .verdict)) (reduce (rowsOf rows′ (r .len)) (value goal)) → reducedOf remainder used ≡ missingOf s cut budget
+    unfolding missingOf
+    missing goal remainder used set found = found ∙ (λ i. missingAs (verdict i) (reduce (final i .rows) (set i)))
+
+    pub decided : (goal remainder used : List ℕ) → value goal ≡ setAt (entryAt s) (goalOf s)
+        → reducedOf remainder used ≡ missingAs (verdictOf (r .verdict)) (reduce (rowsOf rows′ (r .len)) (value goal)) → front ≤ length out
+        → (out″ : List ℕ) → out″ ≡ frontBytes (value (r .known)) (value used) (value remainder) ++ drop front out′ → Decided s cut budget out out″ r
+    unfolding frontOf
+    decided goal remainder used set found space out″ written =
+        let m = missing goal remainder used set found in
+        let rest = stepsBytes (endOf s budget known rows len .steps) ++ drop (front + 40 * r .made) out in
+        record {
+          verdict = verdict;
+          count = count;
+          bytes =
+              written
+              ∙ ap₂ _++_ (λ i. frontBytes (final i .known) (m i .used) (m i .remainder))
+              (ap (drop front) (ran .bytes) ∙ drop-at (take front out) rest front (length-take-le front out space)
+              ∙ ap₂ (λ (ss : List Step) (k : ℕ). stepsBytes ss ++ drop (front + 40 * k) out) steps count);
+        }

@@ -5,23 +5,29 @@ use mathlib.Core.Bool.{true}
 use mathlib.Core.Logic.{⊎-elim, _↔_}
 use mathlib.Core.List.{List, _∷_, _++_, map, List·Memᴰ, List·Memᴰ·not-nil, List·Memᴰ·head, List·Memᴰ·cases-cons, List·Memᴰ·append-cases, List·Memᴰ·eq-of-singleton, Memᴰ·append-right, append-assoc}
 use Prim.Native.Nat.{ℕ, _+_, _*_, _^_, _≤_, _<_}
-use native.Mathlib.Nat.{le-trans, lt-of-lt-of-le, mod-eq-of-lt}
+use native.Mathlib.Nat.{le-trans, lt-of-lt-of-le}
 use native.Mathlib.Omega.{arith}
-use lib.ListN.{length, take, drop, length-append}
+use lib.ListN.{length, drop, length-append}
 use lib.Pow.{pow-mono, pow-pos}
-use lib.Seq.{take-at, drop-at}
+use lib.Seq.{drop-at}
 use Rattle.bitset.specs.Set.{member}
-use Rattle.bitset.specs.Words.{setOf, bytesOf}
-use Rattle.bitset.proofs.Laws.Bytes.{length-bytesOf, setOf-bytesOf}
 use Rattle.bitset.proofs.Laws.Sums.{below-members}
-use Rattle.deduction.specs.Term.{Term, sumOf, _≈_}
+use Rattle.deduction.specs.Term.{Term}
 use Rattle.deduction.specs.Derivation.{Holds, Derivable}
 use Rattle.deduction.specs.Entry.{Entry, termAt, Downward}
+use Rattle.deduction.specs.Standard.{setAt}
+use Rattle.deduction.specs.Elimination.{Reduced, reduce}
+use Rattle.deduction.specs.Missing.{Missing}
 use Rattle.deduction.specs.Step.{Step, Follows}
 use Rattle.deduction.specs.Course.{Verdict, derivable, underivable, exhausted, Course}
 use Rattle.deduction.specs.Run.{Outcome, knowledge}
 use Rattle.deduction.specs.Replay.{Replays}
 use Rattle.deduction.proofs.Steps.{Heads, Made, made, learnt-steps, learnt-heads, known-set, steps-le, run-enough, run-course, trace-run-replays, trace-underivable-exact, trace-underivable-iff, trace-heads}
+use Rattle.deduction.proofs.Elimination.State.{Learnt}
+use Rattle.deduction.proofs.Steps.Next.{knowledge-learnt}
+use Rattle.deduction.proofs.Steps.Drawn.{drawn-known}
+use Rattle.deduction.proofs.Steps.Course.{course-stuck}
+use Rattle.deduction.proofs.Steps.Missing.{missing-found, missing-is, missing-some}
 use Rattle.deduction.proofs.Steps.Replay.{endState}
 use Rattle.dag.specs.Sheet.{countOf, goalOf, traceLength}
 use Rattle.dag.specs.Record.{entryAt}
@@ -29,11 +35,12 @@ use Rattle.dag.specs.Refusal.{refusal}
 use Rattle.dag.proofs.Laws.Good.{Good, good}
 use Rattle.derive.specs.Bytes.{stepsBytes}
 use Rattle.derive.proofs.Laws.Buffer.{steps-length}
-use Rattle.verdict.specs.Answer.{outcomeOf}
+use Rattle.verdict.specs.Buffer.{front, gainedIn, usedIn, remainderIn, stepsIn}
+use Rattle.verdict.specs.Answer.{outcomeOf, missingAs, missingOf, frontOf}
 use Rattle.start.specs.Start.{startEntries, startHeads, startTerms}
 use Rattle.start.proofs.Laws.Heads.{start-below}
-use Rattle.verdict.specs.Demands.{verdictCode, goalTerm, stepsIn, Meets}
-use Rattle.verdict.proofs.Laws.Readback.{Narrow, read-back}
+use Rattle.verdict.specs.Demands.{verdictCode, goalTerm, Meets}
+use Rattle.verdict.proofs.Laws.Readback.{Narrow, read-back, front-length, gained-read, used-read, remainder-read}
 
 -- the set of a step that follows has members below n only
 follows-narrow : (t : ℕ → Term) (n : ℕ) → n ≤ 256 → (es : List ℕ) → ((i : ℕ) → List·Memᴰ i es → i < n) → {s : Step} → Follows t n es s → Narrow s
@@ -42,10 +49,7 @@ follows-narrow t n few es below (Follows.second a o k p) = pow-pos 256
 follows-narrow t n few es below (Follows.decrypt o k j p) = pow-pos 256
 follows-narrow t n few es below (Follows.join o k j p) = pow-pos 256
 follows-narrow t n few es below (Follows.encrypt o k j p) = pow-pos 256
-follows-narrow t n few es below (Follows.sum u o d p) = lt-of-lt-of-le (below-members n u (λ j m. below j (known j (d j m)))) (pow-mono few)
-  where
-    known : (j : ℕ) → (before after : List ℕ) × (es ≡ before ++ (j ∷ after)) × ((js : List ℕ) → ((i : ℕ) → List·Memᴰ i js → List·Memᴰ i before) → ¬ (t j ≈ sumOf (map t js))) → List·Memᴰ j es
-    known j (before, after, e, q) = subst (λ (l : List ℕ). List·Memᴰ j l) (sym e) (Memᴰ·append-right before (List·Memᴰ·head refl))
+follows-narrow t n few es below (Follows.sum u o d p) = lt-of-lt-of-le (below-members n u (λ j m. below j (drawn-known t n es j (d j m)))) (pow-mono few)
 
 -- so has every step made
 made-narrow : (e : ℕ → Entry) (n : ℕ) → Downward e n → n ≤ 256 → {es : List ℕ} {ss : List Step} → Made (termAt e) n es ss → ((i : ℕ) → List·Memᴰ i es → i < n) → (s : Step) → List·Memᴰ s ss → Narrow s
@@ -101,19 +105,70 @@ module _ (s : List ℕ) (cut budget : ℕ) (ok : refusal s ≡ 0) (within : cut 
   unfolding outcomeOf
   run-known = known-set (entryAt s) (countOf s) (g .downward) (g .few) (goalOf s) budget (startHeads s cut) start-is-heads
 
-  run-below : gained < 2 ^ 256
+  all-heads : Heads (entryAt s) (countOf s) (o .learnt)
   unfolding outcomeOf
-  run-below = lt-of-lt-of-le (below-members (countOf s) gained (λ e m. all-heads e (run-known e .0 m) .0)) (pow-mono (g .few))
+  all-heads = learnt-heads (entryAt s) (countOf s) (g .downward) (g .few) (goalOf s) budget (startHeads s cut) start-is-heads
+
+  -- a set of entries is below this
+  narrow : (u : ℕ) → ((e : ℕ) → member u e ≡ true → e < countOf s) → u < 2 ^ 256
+  narrow u low = lt-of-lt-of-le (below-members (countOf s) u low) (pow-mono (g .few))
+
+  run-below : gained < 2 ^ 256
+  run-below = narrow gained (λ e m. all-heads e (run-known e .0 m) .0)
+
+  -- what the sum test finds of the goal at the end of the run is what is missing of it
+  run-learnt-all : Learnt (setAt (entryAt s)) (countOf s) (o .learnt) (knowledge (entryAt s) (o .learnt))
+  run-learnt-all = knowledge-learnt (entryAt s) (countOf s) (g .downward) (o .learnt) all-heads
+
+  abbrev tested : Reduced
+  tested = reduce (knowledge (entryAt s) (o .learnt) .rows) (setAt (entryAt s) (goalOf s))
+
+  run-missing : Missing (entryAt s) (countOf s) (o .learnt) (goalOf s) (tested .used) (tested .remainder)
+  run-missing = missing-found (entryAt s) (countOf s) (g .downward) run-learnt-all (goalOf s) (g .goal)
+
+  missing-out : o .verdict ≡ underivable → missingOf s cut budget ≡ tested
+  unfolding missingOf missingAs
+  missing-out p = ap (λ (v : Verdict). missingAs v tested) p
+
+  missing-none : ¬ (o .verdict ≡ underivable) → missingOf s cut budget ≡ record { remainder = 0; used = 0 }
+  unfolding missingOf missingAs
+  missing-none n = go (o .verdict) refl
     where
-      all-heads : Heads (entryAt s) (countOf s) (o .learnt)
-      all-heads = learnt-heads (entryAt s) (countOf s) (g .downward) (g .few) (goalOf s) budget (startHeads s cut) start-is-heads
+      go : (v : Verdict) → o .verdict ≡ v → missingAs v tested ≡ record { remainder = 0; used = 0 }
+      go derivable p = refl
+      go underivable p = absurd (n p)
+      go exhausted p = refl
 
-  pub known-read : (rest : List ℕ) → setOf (take 32 (bytesOf 32 gained ++ rest)) ≡ gained
-  known-read rest = ap setOf (take-at (bytesOf 32 gained) rest 32 (length-bytesOf 32 gained)) ∙ setOf-bytesOf 32 gained ∙ mod-eq-of-lt run-below
+  missing-narrow : (missingOf s cut budget .used < 2 ^ 256) × (missingOf s cut budget .remainder < 2 ^ 256)
+  unfolding missingOf missingAs
+  missing-narrow = go (o .verdict)
+    where
+      go : (v : Verdict) → (missingAs v tested .used < 2 ^ 256) × (missingAs v tested .remainder < 2 ^ 256)
+      go derivable = (pow-pos 256, pow-pos 256)
+      go underivable = (
+        narrow (tested .used) (λ e m. all-heads e (drawn-known (termAt (entryAt s)) (countOf s) (o .learnt) e (run-missing .drawn e m)) .0),
+        narrow (tested .remainder) (λ e m. run-missing .standards e m .0),
+      )
+      go exhausted = (pow-pos 256, pow-pos 256)
 
-  -- and the steps, read back from a buffer
-  pub steps-read : (rest : List ℕ) → stepsIn (bytesOf 32 gained ++ (stepsBytes (o .steps) ++ rest)) (length (o .steps)) ≡ o .steps
-  steps-read rest = read-back (bytesOf 32 gained) (o .steps) rest (length-bytesOf 32 gained) run-narrow
+  -- the sets and the steps, read back from a buffer
+  pub known-read : (rest : List ℕ) → gainedIn (frontOf s cut budget ++ rest) ≡ gained
+  unfolding frontOf
+  known-read rest = gained-read gained (missingOf s cut budget .used) (missingOf s cut budget .remainder) rest run-below
+
+  pub missing-read : (rest : List ℕ) → (usedIn (frontOf s cut budget ++ rest) ≡ missingOf s cut budget .used) × (remainderIn (frontOf s cut budget ++ rest) ≡ missingOf s cut budget .remainder)
+  unfolding frontOf
+  missing-read rest = (
+    used-read gained (missingOf s cut budget .used) (missingOf s cut budget .remainder) rest (missing-narrow .0),
+    remainder-read gained (missingOf s cut budget .used) (missingOf s cut budget .remainder) rest (missing-narrow .1),
+  )
+
+  pub front-size : length (frontOf s cut budget) ≡ front
+  unfolding frontOf
+  front-size = front-length gained (missingOf s cut budget .used) (missingOf s cut budget .remainder)
+
+  pub steps-read : (rest : List ℕ) → stepsIn (frontOf s cut budget ++ (stepsBytes (o .steps) ++ rest)) (length (o .steps)) ≡ o .steps
+  steps-read rest = read-back (frontOf s cut budget) (o .steps) rest front-size run-narrow
 
   run-few : length (o .steps) ≤ countOf s
   unfolding outcomeOf
@@ -149,21 +204,65 @@ module _ (s : List ℕ) (cut budget : ℕ) (ok : refusal s ≡ 0) (within : cut 
   settled l n underivable p = absurd (n p)
   settled l n exhausted p = absurd (run-ends l p)
 
+  -- at out of reach something is missing
+  run-lacking : o .verdict ≡ underivable → ¬ (tested .remainder ≡ 0)
+  run-lacking p =
+      let (unknown, stuck) = course-stuck run-is-course p in
+      missing-some (entryAt s) (countOf s) (g .downward) run-learnt-all (goalOf s) (g .goal) run-missing
+      (subst (λ (es : List ℕ). ¬ Holds (map (termAt (entryAt s)) es) (goalTerm s)) (sym run-learnt) unknown)
+      (subst (λ (es : List ℕ). (r : Step) → ¬ Follows (termAt (entryAt s)) (countOf s) es r) (sym run-learnt) stuck)
+
+  as-missing : {u r : ℕ} → u ≡ tested .used → r ≡ tested .remainder → Missing (entryAt s) (countOf s) (o .learnt) (goalOf s) u r
+  as-missing {u} {r} p q =
+      subst (λ (x : ℕ). Missing (entryAt s) (countOf s) (o .learnt) (goalOf s) x r) (sym p)
+      (subst (λ (x : ℕ). Missing (entryAt s) (countOf s) (o .learnt) (goalOf s) (tested .used) x) (sym q) run-missing)
+
+  -- whatever is said to be missing, as the demands say it, is what the sum test finds
+  pub missing-only : {v : Verdict} {u r : ℕ} → v ≡ o .verdict
+      → (v ≡ underivable → Missing (entryAt s) (countOf s) (startHeads s cut ++ map (λ (x : Step). x .head) (o .steps)) (goalOf s) u r)
+      → (¬ (v ≡ underivable) → (u ≡ 0) × (r ≡ 0)) → (u ≡ missingOf s cut budget .used) × (r ≡ missingOf s cut budget .remainder)
+  missing-only {v} {u} {r} is found none = go v refl
+    where
+      zero : ¬ (v ≡ underivable) → (u ≡ missingOf s cut budget .used) × (r ≡ missingOf s cut budget .remainder)
+      zero n =
+          let e = missing-none (λ z. n (is ∙ z)) in
+          (none n .0 ∙ sym (ap (λ (x : Reduced). x .used) e), none n .1 ∙ sym (ap (λ (x : Reduced). x .remainder) e))
+
+      other : {w : Verdict} → v ≡ w → ¬ (w ≡ underivable) → ¬ (v ≡ underivable)
+      other p n z = n (sym p ∙ z)
+
+      go : (w : Verdict) → v ≡ w → (u ≡ missingOf s cut budget .used) × (r ≡ missingOf s cut budget .remainder)
+      go derivable p = zero (other p (λ z. let e : _≡_ {A = ℕ} 0 1 = cc in omega arith))
+      go underivable p =
+          let e = missing-out (sym is ∙ p) in
+          let (a, b) =
+          missing-is (entryAt s) (countOf s) (g .downward) run-learnt-all (goalOf s) (g .goal)
+          (subst (λ (es : List ℕ). Missing (entryAt s) (countOf s) es (goalOf s) u r) (sym run-learnt) (found p)) in
+          (a ∙ sym (ap (λ (x : Reduced). x .used) e), b ∙ sym (ap (λ (x : Reduced). x .remainder) e))
+      go exhausted p = zero (other p (λ z. let e : _≡_ {A = ℕ} 0 1 = cc in omega arith))
+
   -- the demands, read off the buffer
-  pub meets : (old : List ℕ) → Meets s cut budget old (bytesOf 32 gained ++ (stepsBytes (o .steps) ++ drop (32 + 40 * length (o .steps)) old)) (verdictCode (o .verdict) + length (o .steps))
+  pub meets : (old : List ℕ) → Meets s cut budget old (frontOf s cut budget ++ (stepsBytes (o .steps) ++ drop (front + 40 * length (o .steps)) old)) (verdictCode (o .verdict) + length (o .steps))
   meets old =
-      let rest = drop (32 + 40 * length (o .steps)) old in
-      let out = bytesOf 32 gained ++ (stepsBytes (o .steps) ++ rest) in
+      let rest = drop (front + 40 * length (o .steps)) old in
+      let out = frontOf s cut budget ++ (stepsBytes (o .steps) ++ rest) in
       let back : o .steps ≡ stepsIn out (length (o .steps)) = sym (steps-read rest) in
+      let heads : o .learnt ≡ startHeads s cut ++ map (λ (r : Step). r .head) (stepsIn out (length (o .steps))) =
+      run-learnt ∙ ap (λ (ss : List Step). startHeads s cut ++ map (λ (r : Step). r .head) ss) back in
+      let (used, remainder) = missing-read (stepsBytes (o .steps) ++ rest) in
       record {
         verdict = o .verdict;
         count = length (o .steps);
         coded = refl;
         course = subst (λ (ss : List Step). Course (termAt (entryAt s)) (countOf s) (goalOf s) budget (startHeads s cut) ss (o .verdict)) back run-is-course;
-        known = subst (λ (es : List ℕ). (e : ℕ) → (member (setOf (take 32 out)) e ≡ true) ↔ List·Memᴰ e es)
-            (run-learnt ∙ ap (λ (ss : List Step). startHeads s cut ++ map (λ (r : Step). r .head) ss) back)
+        known = subst (λ (es : List ℕ). (e : ℕ) → (member (gainedIn out) e ≡ true) ↔ List·Memᴰ e es) heads
             (subst (λ (u : ℕ). (e : ℕ) → (member u e ≡ true) ↔ List·Memᴰ e (o .learnt)) (sym (known-read (stepsBytes (o .steps) ++ rest))) run-known);
-        kept = front-kept (bytesOf 32 gained) (stepsBytes (o .steps)) rest (32 + 40 * length (o .steps)) (ap₂ _+_ (length-bytesOf 32 gained) (steps-length (o .steps)));
+        missing = λ p.
+            subst (λ (es : List ℕ). Missing (entryAt s) (countOf s) es (goalOf s) (usedIn out) (remainderIn out)) heads
+            (as-missing (used ∙ ap (λ (x : Reduced). x .used) (missing-out p)) (remainder ∙ ap (λ (x : Reduced). x .remainder) (missing-out p)));
+        lacking = λ p z. run-lacking p (sym (ap (λ (x : Reduced). x .remainder) (missing-out p)) ∙ sym remainder ∙ z);
+        others = λ n. (used ∙ ap (λ (x : Reduced). x .used) (missing-none n), remainder ∙ ap (λ (x : Reduced). x .remainder) (missing-none n));
+        kept = front-kept (frontOf s cut budget) (stepsBytes (o .steps)) rest (front + 40 * length (o .steps)) (ap₂ _+_ front-size (steps-length (o .steps)));
         exact = run-iff;
         otherwise = λ l n. settled l n (o .verdict) refl;
         passes = λ p. subst (λ (ss : List Step). (end : List Term) × Replays (termAt (entryAt s)) (countOf s) (startTerms s cut) ss end × Holds end (goalTerm s)) back (run-passes p);

@@ -1,4 +1,4 @@
--- Steps written to a buffer are read back as they were, and a buffer of bytes is what is read from it, written. Assumes nothing.
+-- Sets and steps written to a buffer are read back as they were, and a buffer of bytes is what is read from it, written. Assumes nothing.
 use mathlib.Core.Path.{_≡_, refl, sym, ap, ap₂, _∙_, subst}
 use mathlib.Core.Logic.{by-cases}
 use mathlib.Core.List.{List, [], _∷_, _++_, append-assoc, List·Memᴰ}
@@ -6,9 +6,9 @@ use Prim.Native.Nat.{ℕ, zero, suc, _+_, _*_, _^_, _/_, _%_, _≤_, _<_}
 use native.Mathlib.Nat.{div-add-mod', mod-eq-of-lt, mul-suc, le-of-suc-le-suc, le-refl, le-of-lt, le-trans}
 use native.Mathlib.Decide.{decLt}
 use native.Mathlib.Omega.{arith}
-use lib.ListN.{length, getD, take, drop, length-drop, take-append-drop, List·getD-eq-default}
+use lib.ListN.{length, getD, take, drop, length-append, length-drop, take-append-drop, List·getD-eq-default}
 use lib.Pow.{pow-pos}
-use lib.Seq.{take-at, drop-append-add, take-suc, take-length, drop-cons, drop-drop, take-add, getD-take, getD-drop, length-take-le}
+use lib.Seq.{take-at, drop-at, drop-append-add, take-suc, take-length, drop-cons, drop-drop, take-add, getD-take, getD-drop, length-take-le}
 use Rattle.bitset.specs.Words.{setOf, byteOf, bytesOf}
 use Rattle.bitset.proofs.Laws.Bytes.{length-bytesOf, setOf-bytesOf, packed-lt}
 use Rattle.bitset.proofs.Laws.Words.{Below, packed-injective}
@@ -17,7 +17,8 @@ use Rattle.dag.specs.Sheet.{numberAt}
 use Rattle.derive.specs.Bytes.{two, stepBytes, stepsBytes}
 use Rattle.derive.proofs.Laws.Buffer.{step-length, steps-more}
 use Rattle.start.proofs.Laws.Lists.{getD-member}
-use Rattle.verdict.specs.Demands.{readStep, stepsIn}
+use Rattle.verdict.specs.Buffer.{front, setIn, gainedIn, usedIn, remainderIn, readStep, stepsIn}
+use Rattle.verdict.specs.Answer.{frontBytes}
 
 -- a set that its 32 bytes hold
 abbrev pub Narrow : Step → Type 0
@@ -50,9 +51,9 @@ drop-steps (s ∷ ss) rest (suc k) h =
 none : Step
 none = step 0 0 0 0 0
 
-module _ (front : List ℕ) (ss : List Step) (rest : List ℕ) (thirty-two : length front ≡ 32) (narrow : (s : Step) → List·Memᴰ s ss → Narrow s) where
+module _ (first : List ℕ) (ss : List Step) (rest : List ℕ) (size : length first ≡ front) (narrow : (s : Step) → List·Memᴰ s ss → Narrow s) where
   out : List ℕ
-  out = front ++ (stepsBytes ss ++ rest)
+  out = first ++ (stepsBytes ss ++ rest)
 
   read-front : (k : ℕ) → k ≤ length ss → stepsIn out k ≡ take k ss
   unfolding stepsIn out stepsBytes
@@ -60,8 +61,8 @@ module _ (front : List ℕ) (ss : List Step) (rest : List ℕ) (thirty-two : len
   read-front (suc k) h =
       ap₂ (λ (l : List Step) (s : Step). l ++ (s ∷ [])) (read-front k (le-of-lt h))
       (ap readStep
-      (ap (λ (n : ℕ). drop (n + 40 * k) out) (sym thirty-two)
-      ∙ drop-append-add front (stepsBytes ss ++ rest) (40 * k)
+      (ap (λ (n : ℕ). drop (n + 40 * k) out) (sym size)
+      ∙ drop-append-add first (stepsBytes ss ++ rest) (40 * k)
       ∙ drop-steps ss rest k (le-of-lt h)
       ∙ ap (λ (l : List Step). stepsBytes l ++ rest) (drop-cons ss k none h)
       ∙ append-assoc (stepBytes (getD ss k none)) (stepsBytes (drop (suc k) ss)) rest)
@@ -69,9 +70,38 @@ module _ (front : List ℕ) (ss : List Step) (rest : List ℕ) (thirty-two : len
       ∙ sym (take-suc ss k none h)
 
   -- all of them
-  pub read-back : stepsIn (front ++ (stepsBytes ss ++ rest)) (length ss) ≡ ss
+  pub read-back : stepsIn (first ++ (stepsBytes ss ++ rest)) (length ss) ≡ ss
   unfolding out
   read-back = read-front (length ss) (le-refl (length ss)) ∙ take-length ss
+
+-- sets written before the first step are read back as they were
+set-read : (at : ℕ) (first rest : List ℕ) (u : ℕ) → length first ≡ at → u < 2 ^ 256 → setIn at (first ++ (bytesOf 32 u ++ rest)) ≡ u
+set-read at first rest u l h =
+    ap (λ (b : List ℕ). setOf (take 32 b)) (drop-at first (bytesOf 32 u ++ rest) at l)
+    ∙ ap setOf (take-at (bytesOf 32 u) rest 32 (length-bytesOf 32 u)) ∙ setOf-bytesOf 32 u ∙ mod-eq-of-lt h
+
+pub front-length : (a b c : ℕ) → length (frontBytes a b c) ≡ front
+front-length a b c =
+    length-append (bytesOf 32 a) (bytesOf 32 b ++ bytesOf 32 c)
+    ∙ ap₂ _+_ (length-bytesOf 32 a) (length-append (bytesOf 32 b) (bytesOf 32 c) ∙ ap₂ _+_ (length-bytesOf 32 b) (length-bytesOf 32 c))
+
+module _ (a b c : ℕ) (rest : List ℕ) where
+  -- the three sets one after the other
+  in-turn : frontBytes a b c ++ rest ≡ bytesOf 32 a ++ (bytesOf 32 b ++ (bytesOf 32 c ++ rest))
+  in-turn =
+      append-assoc (bytesOf 32 a) (bytesOf 32 b ++ bytesOf 32 c) rest
+      ∙ ap (λ (l : List ℕ). bytesOf 32 a ++ l) (append-assoc (bytesOf 32 b) (bytesOf 32 c) rest)
+
+  pub gained-read : a < 2 ^ 256 → gainedIn (frontBytes a b c ++ rest) ≡ a
+  gained-read h = ap gainedIn in-turn ∙ set-read 0 [] (bytesOf 32 b ++ (bytesOf 32 c ++ rest)) a refl h
+
+  pub used-read : b < 2 ^ 256 → usedIn (frontBytes a b c ++ rest) ≡ b
+  used-read h = ap usedIn in-turn ∙ set-read 32 (bytesOf 32 a) (bytesOf 32 c ++ rest) b (length-bytesOf 32 a) h
+
+  pub remainder-read : c < 2 ^ 256 → remainderIn (frontBytes a b c ++ rest) ≡ c
+  remainder-read h =
+      ap remainderIn (in-turn ∙ sym (append-assoc (bytesOf 32 a) (bytesOf 32 b) (bytesOf 32 c ++ rest)))
+      ∙ set-read 64 (bytesOf 32 a ++ bytesOf 32 b) rest c (length-append (bytesOf 32 a) (bytesOf 32 b) ∙ ap₂ _+_ (length-bytesOf 32 a) (length-bytesOf 32 b)) h
 
 -- parts of bytes are bytes
 below-drop : (n : ℕ) (l : List ℕ) → Below 8 l → Below 8 (drop n l)
@@ -142,21 +172,33 @@ step-back l r h =
     ∙ sym (ap (take 40) (eight l (le-trans (omega arith) r)))
 
 -- all steps
-pub steps-back : (out : List ℕ) (k : ℕ) → 32 + 40 * k ≤ length out → Below 8 out → stepsBytes (stepsIn out k) ≡ take (40 * k) (drop 32 out)
+pub steps-back : (out : List ℕ) (k : ℕ) → front + 40 * k ≤ length out → Below 8 out → stepsBytes (stepsIn out k) ≡ take (40 * k) (drop front out)
 unfolding stepsIn stepsBytes
 steps-back out zero r h = refl
 steps-back out (suc k) r h =
-    steps-more (stepsIn out k) (readStep (drop (32 + 40 * k) out))
+    steps-more (stepsIn out k) (readStep (drop (front + 40 * k) out))
     ∙ ap₂ _++_ (steps-back out k (omega (arith, mul-suc 40 k)) h)
-    (step-back (drop (32 + 40 * k) out) (omega (arith, mul-suc 40 k, length-drop (32 + 40 * k) out)) (below-drop (32 + 40 * k) out h) ∙ ap (take 40) (sym (drop-drop (40 * k) 32 out)))
-    ∙ sym (take-add (40 * k) 40 (drop 32 out))
-    ∙ ap (λ (j : ℕ). take j (drop 32 out)) (sym (mul-suc 40 k))
+    (step-back (drop (front + 40 * k) out) (omega (arith, mul-suc 40 k, length-drop (front + 40 * k) out)) (below-drop (front + 40 * k) out h) ∙ ap (take 40) (sym (drop-drop (40 * k) front out)))
+    ∙ sym (take-add (40 * k) 40 (drop front out))
+    ∙ ap (λ (j : ℕ). take j (drop front out)) (sym (mul-suc 40 k))
 
--- a buffer of bytes is its set, its steps and what follows
-pub buffer-back : (out : List ℕ) (k : ℕ) → 32 + 40 * k ≤ length out → Below 8 out
-    → out ≡ bytesOf 32 (setOf (take 32 out)) ++ (stepsBytes (stepsIn out k) ++ drop (32 + 40 * k) out)
+-- the 32 bytes of a set read from 32
+set-back : (at : ℕ) (out : List ℕ) → at + 32 ≤ length out → Below 8 out → bytesOf 32 (setIn at out) ≡ take 32 (drop at out)
+set-back at out r h =
+    let long : 32 ≤ length (drop at out) = omega (arith, length-drop at out) in
+    bytes-back (take 32 (drop at out)) 32 (length-take-le 32 (drop at out) long) (below-take 32 (drop at out) long (below-drop at out h))
+
+-- the bytes before the first step
+front-back : (out : List ℕ) → front ≤ length out → Below 8 out → frontBytes (gainedIn out) (usedIn out) (remainderIn out) ≡ take front out
+front-back out r h =
+    (λ i. set-back 0 out (omega arith) h i ++ (set-back 32 out (omega arith) h i ++ set-back 64 out (omega arith) h i))
+    ∙ ap (λ (l : List ℕ). take 32 out ++ l) (ap (λ (l : List ℕ). take 32 (drop 32 out) ++ take 32 l) (sym (drop-drop 32 32 out)) ∙ sym (take-add 32 32 (drop 32 out)))
+    ∙ sym (take-add 32 64 out)
+
+-- a buffer of bytes is its sets, its steps and what follows
+pub buffer-back : (out : List ℕ) (k : ℕ) → front + 40 * k ≤ length out → Below 8 out
+    → out ≡ frontBytes (gainedIn out) (usedIn out) (remainderIn out) ++ (stepsBytes (stepsIn out k) ++ drop (front + 40 * k) out)
 buffer-back out k r h =
-    let front : 32 ≤ length out = le-trans (omega arith) r in
-    sym (take-append-drop 32 out)
-    ∙ ap₂ _++_ (sym (bytes-back (take 32 out) 32 (length-take-le 32 out front) (below-take 32 out front h)))
-    (sym (take-append-drop (40 * k) (drop 32 out)) ∙ ap₂ _++_ (sym (steps-back out k r h)) (drop-drop (40 * k) 32 out))
+    sym (take-append-drop front out)
+    ∙ ap₂ _++_ (sym (front-back out (le-trans (omega arith) r) h))
+    (sym (take-append-drop (40 * k) (drop front out)) ∙ ap₂ _++_ (sym (steps-back out k r h)) (drop-drop (40 * k) front out))

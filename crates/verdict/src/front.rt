@@ -1,0 +1,55 @@
+// The bytes of the output buffer before its first step: the known set, and what is missing of a goal that is out of reach.
+ghost use mathlib.Core.Path.{_≡_};
+ghost use mathlib.Core.List.{_++_};
+ghost use Prim.Native.Nat.{_≤_};
+ghost use lib.ListN.{length, drop};
+ghost use Rattle.bitset.specs.Words.{value};
+ghost use Rattle.deduction.specs.Elimination.{reduce};
+ghost use Rattle.knowledge.specs.Inner.Rows.{rowsOf};
+ghost use Rattle.knowledge.specs.Inner.State.{reducedOf};
+ghost use Rattle.derive.specs.Inner.Ran.{verdictOf};
+ghost use Rattle.verdict.specs.Buffer.{front};
+ghost use Rattle.verdict.specs.Answer.{missingAs, frontBytes};
+ghost use Rattle.verdict.specs.Inner.Decide.{isUnderivable};
+use derive::run::Verdict;
+use knowledge::Reduced;
+
+// How many bytes stand before the first step: three sets.
+pub const FRONT: usize = 96;
+
+// Is the goal out of reach?
+fn is_underivable(verdict: Verdict) -> bool
+    ensures { λ r. ⌜ r ≡ isUnderivable (verdictOf verdict) ⌝ }
+{
+    match verdict {
+        Verdict::Derivable => false,
+        Verdict::Underivable => true,
+        Verdict::Exhausted => false,
+    }
+}
+
+// What is missing of the goal, whose set is goal: the sum test hands it back, at out of reach. Nothing is missing at the other verdicts.
+pub fn missing(verdict: Verdict, rows: &[u64; 2048], len: usize, goal: [u64; 4]) -> Reduced
+    requires { ⌜ (length (now rows) ≡ 2048) × (len ≤ 256) ⌝ }
+    ensures { λ r. ⌜ reducedOf (r .remainder) (r .used) ≡ missingAs (verdictOf verdict) (reduce (rowsOf (now (rows .entry)) len) (value goal)) ⌝ }
+{
+    if is_underivable(verdict) {
+        return knowledge::reduce(rows, len, goal);
+    }
+    Reduced {
+        remainder: bitset::empty(),
+        used: bitset::empty(),
+    }
+}
+
+// Writes the front of out: the known set, the used set, the remainder.
+pub fn write_front(known: [u64; 4], missing: Reduced, out: &mut [u8])
+    requires { ⌜ front ≤ length (now out) ⌝ }
+    ensures { λ _. ⌜ now (out .exit) ≡ frontBytes (value known) (value (missing .used)) (value (missing .remainder)) ++ drop front (now (out .entry)) ⌝ }
+{
+    let used = missing.used;
+    let remainder = missing.remainder;
+    let _known = bitset::write(known, out);
+    let _used = bitset::write(used, &mut out[32..]);
+    let _remainder = bitset::write(remainder, &mut out[64..]);
+}
