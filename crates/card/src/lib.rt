@@ -6,11 +6,12 @@ ghost use lib.ListN.{length};
 ghost use Rattle.dag.specs.Sheet.{traceLength};
 ghost use Rattle.dag.specs.Refusal.{refusal};
 ghost use Rattle.verdict.specs.Answer.{outcomeOf};
-ghost use Rattle.verdict.specs.Demands.{readStep, stepsIn};
+ghost use Rattle.verdict.specs.Buffer.{front, readStep, stepsIn};
 ghost use Rattle.card.specs.Card.{stepText, stepsText, cutText, isReached, cutsFrom, cardOf};
 ghost use Rattle.line.specs.Buffer.{Appended};
 ghost use Rattle.card.specs.Buffer.{Printed};
 use dag::sheet;
+use verdict::front::FRONT;
 
 // The place after what was printed of a cut, and whether the next cut is to be printed.
 struct Shown {
@@ -34,13 +35,13 @@ fn append_step(out: &mut [u8], at: usize, step: &[u8]) -> usize
 
 // Appends the lines of the first n rungs of a buffer.
 fn append_steps(out: &mut [u8], at: usize, buffer: &[u8], n: u16) -> usize
-    requires { ⌜ (n ≤ 256) × (32 + 40 * n ≤ length (now buffer)) × (at + 1050 * n ≤ length (now out)) ⌝ }
+    requires { ⌜ (n ≤ 256) × (front + 40 * n ≤ length (now buffer)) × (at + 1050 * n ≤ length (now out)) ⌝ }
     ensures { λ r. ⌜ Appended (now (out .entry)) at (stepsText (stepsIn (now (buffer .entry)) n)) (now (out .exit)) r ⌝ }
 {
     let mut end = at;
     let mut i: u16 = 0;
     while i < n {
-        let from = 32 + 40 * (i as usize);
+        let from = FRONT + 40 * (i as usize);
         end = append_step(out, end, &buffer[from..]);
         i += 1;
     }
@@ -49,11 +50,11 @@ fn append_steps(out: &mut [u8], at: usize, buffer: &[u8], n: u16) -> usize
 
 // Appends what is printed of a cut: its line, and where the goal is reached the rungs.
 fn append_cut(out: &mut [u8], at: usize, sheet: &[u8], cut: u16, buffer: &mut [u8]) -> Shown
-    requires { ⌜ (refusal (now sheet) ≡ 0) × (cut ≤ traceLength (now sheet)) × (length (now buffer) ≡ 10272) × (at + 268864 ≤ length (now out)) ⌝ }
+    requires { ⌜ (refusal (now sheet) ≡ 0) × (cut ≤ traceLength (now sheet)) × (length (now buffer) ≡ front + 40 * 256) × (at + 268864 ≤ length (now out)) ⌝ }
     ensures text { λ r. ⌜ Appended (now (out .entry)) at (cutText (now (sheet .entry)) cut) (now (out .exit)) (r .end) ⌝ }
     ensures short { λ r. ⌜ (r .more ≡ true → r .end ≤ at + 64) ⌝ }
     ensures more { λ r. ⌜ r .more ≡ not (isReached (outcomeOf (now (sheet .entry)) cut 256 .verdict)) ⌝ }
-    ensures size { λ _. ⌜ length (now (buffer .exit)) ≡ 10272 ⌝ }
+    ensures size { λ _. ⌜ length (now (buffer .exit)) ≡ front + 40 * 256 ⌝ }
 {
     let answer = verdict::zuwendryk_verdict(sheet, cut as u32, 256, buffer);
     if answer < 2000 {
@@ -72,7 +73,7 @@ fn append_cuts(out: &mut [u8], at: usize, sheet: &[u8], last: u16) -> usize
     requires { ⌜ (refusal (now sheet) ≡ 0) × (last ≡ traceLength (now sheet)) × (at + 290000 ≤ length (now out)) ⌝ }
     ensures { λ r. ⌜ Appended (now (out .entry)) at (cutsFrom (now (sheet .entry)) 0 (last + 1)) (now (out .exit)) r ⌝ }
 {
-    let mut buffer = [0u8; 10272];
+    let mut buffer = [0u8; FRONT + 40 * 256];
     let mut end = at;
     let mut cut: u16 = 0;
     while cut <= last {

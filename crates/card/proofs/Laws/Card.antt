@@ -21,7 +21,8 @@ use Rattle.dag.specs.Refusal.{refusal}
 use Rattle.dag.proofs.Laws.Good.{good}
 use Rattle.derive.proofs.Laws.Buffer.{part-whole}
 use Rattle.verdict.specs.Refused.{refusalOf}
-use Rattle.verdict.specs.Demands.{verdictCode, readStep, stepsIn}
+use Rattle.verdict.specs.Buffer.{front, gainedIn, readStep, stepsIn}
+use Rattle.verdict.specs.Demands.{verdictCode}
 use Rattle.verdict.specs.Answer.{outcomeOf, answerOf, bufferOf}
 use Rattle.verdict.proofs.Laws.Answered.{accepted, accepted-answer, accepted-few, accepted-known, accepted-steps, accepted-ends}
 use Rattle.line.specs.Line.{goalLine, outLine, reachedLine, stepLine, refusedLine}
@@ -52,7 +53,7 @@ unfolding stepsText
 stepsText-more [] r = append-nil (stepText r)
 stepsText-more (q ∷ rs) r = ap (λ (l : List ℕ). stepText q ++ l) (stepsText-more rs r) ∙ sym (append-assoc (stepText q) (stepsText rs) (stepText r))
 
-stepsIn-more : (b : List ℕ) (i : ℕ) → stepsIn b (i + 1) ≡ stepsIn b i ++ (readStep (drop (32 + 40 * i) b) ∷ [])
+stepsIn-more : (b : List ℕ) (i : ℕ) → stepsIn b (i + 1) ≡ stepsIn b i ++ (readStep (drop (front + 40 * i) b) ∷ [])
 unfolding stepsIn
 stepsIn-more b i = ap (stepsIn b) (add-one i)
 
@@ -61,13 +62,13 @@ unfolding stepsIn stepsText
 steps-none b d at h = append-none d at h
 
 pub steps-more : (b : List ℕ) (i : ℕ) {d d₁ d₂ : List ℕ} {at r₁ r₂ : ℕ} → Appended d at (stepsText (stepsIn b i)) d₁ r₁
-    → Appended d₁ r₁ (stepText (readStep (take (length b - (32 + 40 * i)) (drop (32 + 40 * i) b)))) d₂ r₂ → Appended d at (stepsText (stepsIn b (i + 1))) d₂ r₂
+    → Appended d₁ r₁ (stepText (readStep (take (length b - (front + 40 * i)) (drop (front + 40 * i) b)))) d₂ r₂ → Appended d at (stepsText (stepsIn b (i + 1))) d₂ r₂
 steps-more b i h k =
-    append-as (sym (stepsText-more (stepsIn b i) (readStep (drop (32 + 40 * i) b))) ∙ ap stepsText (sym (stepsIn-more b i)))
-    (append-next h (append-as (ap (λ (l : List ℕ). stepText (readStep l)) (part-whole b (32 + 40 * i))) k))
+    append-as (sym (stepsText-more (stepsIn b i) (readStep (drop (front + 40 * i) b))) ∙ ap stepsText (sym (stepsIn-more b i)))
+    (append-next h (append-as (ap (λ (l : List ℕ). stepText (readStep l)) (part-whole b (front + 40 * i))) k))
 
 -- what is printed of a cut
-module _ (s : List ℕ) (cut : ℕ) (old : List ℕ) (good-sheet : refusal s ≡ 0) (within : cut ≤ traceLength s) (size : length old ≡ 10272) where
+module _ (s : List ℕ) (cut : ℕ) (old : List ℕ) (good-sheet : refusal s ≡ 0) (within : cut ≤ traceLength s) (size : length old ≡ front + 40 * 256) where
   abbrev o : Outcome
   o = outcomeOf s cut 256
 
@@ -129,7 +130,7 @@ module _ (s : List ℕ) (cut : ℕ) (old : List ℕ) (good-sheet : refusal s ≡
   reached-is p h = ap isReached (is-derivable p h)
 
   pub shown-out : {answer count : ℕ} {d d₁ new : List ℕ} {at r₁ : ℕ} → answer ≡ answerOf s cut 256 (length old) → 2000 ≤ answer → new ≡ bufferOf s cut 256 old
-      → count ≡ ones (cond (leb 32 (length new)) (setOf (take 32 new)) 0) → length new ≡ 10272 → Appended d at (outLine cut count) d₁ r₁ → Appended d at (cutText s cut) d₁ r₁
+      → count ≡ ones (cond (leb 32 (length new)) (setOf (take 32 new)) 0) → length new ≡ front + 40 * 256 → Appended d at (outLine cut count) d₁ r₁ → Appended d at (cutText s cut) d₁ r₁
   unfolding cutText verdictText
   shown-out {count = count} {new = new} p h b q l line =
       append-as (ap (outLine cut) figure ∙ ap (λ (v : Verdict). verdictText cut v known (o .steps)) (sym (is-underivable p h))) line
@@ -137,7 +138,7 @@ module _ (s : List ℕ) (cut : ℕ) (old : List ℕ) (good-sheet : refusal s ≡
       figure : count ≡ known
       figure =
           q
-          ∙ ap ones (when-le 32 (length new) (setOf (take 32 new)) 0 (omega arith) ∙ ap (λ (x : List ℕ). setOf (take 32 x)) b ∙ accepted-known s cut 256 old fine)
+          ∙ ap ones (when-le 32 (length new) (setOf (take 32 new)) 0 (omega arith) ∙ ap gainedIn b ∙ accepted-known s cut 256 old fine)
 
   pub out-is : {answer : ℕ} → answer ≡ answerOf s cut 256 (length old) → 2000 ≤ answer → isReached (o .verdict) ≡ false
   unfolding isReached

@@ -1,7 +1,7 @@
 -- `card::append_cut` meets its contract: by the number of the verdict.
 use mathlib.Core.Path.{_≡_, refl, sym, ap, _∙_}
 use mathlib.Core.Bool.{not, false≢true}
-use Prim.Native.Nat.{_-_}
+use Prim.Native.Nat.{_+_, _-_, _*_}
 use native.Mathlib.Omega.{arith}
 use lib.Count.{ones}
 use lib.ListN.{length}
@@ -9,12 +9,13 @@ use denote.Ref.{now}
 use Rattle.line.specs.Words.{cut-word, reached-word, out-of-reach-word}
 use Rattle.line.proofs.Laws.Buffer.{append-kept}
 use Rattle.line.proofs.Laws.Line.{pair-length}
+use Rattle.verdict.specs.Buffer.{front}
 use Rattle.card.proofs.Laws.Card.{at-least, few, made-steps, shown-reached, reached-is, shown-out, out-is}
 use borrow.Author.Needs.{needs}
 use Rattle.card.proofs.append_cut.Statement.{statement}
 use Rattle.card.proofs.append_cut.Tie as tie
 
-kept : (c : tie.After-slice-known3) → length (c .before .before .zuwendryk-verdict .last .1 .1 .1 .0) ≡ 10272
+kept : (c : tie.After-slice-known3) → length (c .before .before .zuwendryk-verdict .last .1 .1 .1 .0) ≡ front + 40 * 256
 kept c = search needs
 
 zuwendryk-verdict-requires : tie.Need-zuwendryk-verdict-requires

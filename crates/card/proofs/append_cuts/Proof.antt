@@ -2,7 +2,7 @@
 use mathlib.Core.Path.{_≡_, refl, sym, ap, _∙_}
 use mathlib.Core.Bool.{Bool, true, false, not}
 use mathlib.Core.List.{List}
-use Prim.Native.Nat.{ℕ, _+_, _-_, _≤_}
+use Prim.Native.Nat.{ℕ, _+_, _-_, _*_, _≤_}
 use native.Mathlib.Omega.{arith}
 use lib.ListN.{length}
 use denote.Ref.{now}
@@ -10,6 +10,7 @@ use Rattle.dag.specs.Sheet.{traceLength}
 use Rattle.dag.specs.Refusal.{refusal}
 use Rattle.dag.proofs.Laws.Good.{good}
 use Rattle.line.proofs.Laws.Buffer.{append-kept}
+use Rattle.verdict.specs.Buffer.{front}
 use Rattle.card.proofs.Laws.Card.{Along, along-start, along-reached, along-more, along-end}
 use borrow.Author.Needs.{needs}
 use Rattle.card.proofs.append_cuts.Statement.{statement}
@@ -28,7 +29,7 @@ twice false = refl
 
 abbrev Inv-loop : tie.InvT-loop
 Inv-loop out₀ at sheet last buffer₀ end₀ cut₀ out buffer end cut =
-    (cut ≤ last + 1) × (length buffer ≡ 10272) × Along sheet last out₀ at cut out end
+    (cut ≤ last + 1) × (length buffer ≡ front + 40 * 256) × Along sheet last out₀ at cut out end
 
 abbrev μ-loop : tie.MeasureT-loop
 μ-loop out₀ at sheet last buffer₀ end₀ cut₀ out buffer end cut =

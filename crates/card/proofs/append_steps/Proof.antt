@@ -4,7 +4,7 @@ use Prim.Native.Nat.{ℕ, _+_, _-_, _*_, _≤_}
 use native.Mathlib.Omega.{arith}
 use denote.Ref.{now}
 use Rattle.derive.proofs.Laws.Buffer.{part-room}
-use Rattle.verdict.specs.Demands.{stepsIn}
+use Rattle.verdict.specs.Buffer.{front, stepsIn}
 use Rattle.card.specs.Card.{stepsText}
 use Rattle.line.specs.Buffer.{Appended}
 use Rattle.line.proofs.Laws.Buffer.{append-as, append-kept}
@@ -47,7 +47,7 @@ append-step-requires : tie.Need-append-step-requires Inv-loop μ-loop
 append-step-requires c κs = let s = c .before .before .before .before .before .before in
     let l = c .before .before .before .loop in
     let i = c .before .before .loop-test .taken in
-    (omega (arith, s .pre .2, l .inv .1, append-kept (l .inv .2), i), part-room (now (s .args .buffer)) (32 + 40 * l .i) 40 (omega (arith, s .pre .1, i)))
+    (omega (arith, s .pre .2, l .inv .1, append-kept (l .inv .2), i), part-room (now (s .args .buffer)) (front + 40 * l .i) 40 (omega (arith, s .pre .1, i)))
 
 add-i : tie.Need-add-i Inv-loop μ-loop
 add-i c = search needs
