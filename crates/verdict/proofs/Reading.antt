@@ -1,26 +1,36 @@
 -- What a caller may conclude from the number that comes back, for every good sheet. Each statement is drawn from a field of `Meets` alone.
 -- Shown: `passes-derivable`; `reached-derivable`; `out-underivable`; `public-reached`, where the goal is a public atom; `out-exact`, `reached-exact`, with a
--- budget of at least the number of entries; `stopped-used-up`, `steps-few`, `steps-fields`. Assumes nothing.
+-- budget of at least the number of entries; `stopped-used-up`, `steps-few`, `steps-fields`; what the used set and the remainder mean, `out-missing`,
+-- `missing-ungained`, `missing-underivable`, `missing-suffices`, `reached-nothing`, `stopped-nothing`. Assumes nothing.
 use mathlib.Core.Path.{_≡_, refl, sym, ap, _∙_}
+use mathlib.Core.Bool.{true}
 use mathlib.Core.Logic.{_↔_}
-use mathlib.Core.List.{List, List·Memᴰ}
+use mathlib.Core.List.{List, _∷_, List·Memᴰ}
 use Prim.Native.Nat.{ℕ, _+_, _≤_, _<_}
 use native.Mathlib.Omega.{arith}
 use lib.ListN.{length}
-use Rattle.deduction.specs.Derivation.{Derivable}
+use Rattle.bitset.specs.Set.{member}
+use Rattle.deduction.specs.Term.{Term}
+use Rattle.deduction.specs.Derivation.{Derivable, begin}
 use Rattle.deduction.specs.Entry.{Atom, termAt}
+use Rattle.deduction.specs.Standard.{sumOfSet}
 use Rattle.deduction.specs.Step.{Step, Follows}
 use Rattle.deduction.specs.Course.{Verdict, derivable, underivable, exhausted, Course}
-use Rattle.deduction.proofs.Steps.{replay-derivable}
-use Rattle.deduction.proofs.Steps.Course.{course-stopped, course-unique, head-gained}
+use Rattle.deduction.specs.Missing.{Missing}
+use Rattle.deduction.proofs.Steps.{replay-derivable, sound-heads, trace-derivable}
+use Rattle.deduction.proofs.Steps.Course.{course-made, course-stopped, course-unique, head-gained}
+use Rattle.deduction.proofs.Steps.Drawn.{drawn-known}
+use Rattle.deduction.proofs.Steps.Held.{held-newest, held-older, derivable-kept}
+use Rattle.deduction.proofs.Steps.Missing.{remainder-unknown, missing-enough}
 use Rattle.deduction.proofs.Steps.Fields.{Fields, replays-fields}
 use Rattle.dag.specs.Sheet.{countOf, goalOf, traceLength}
 use Rattle.dag.specs.Record.{entryAt}
 use Rattle.dag.specs.Refusal.{refusal}
 use Rattle.dag.proofs.Laws.Good.{good}
-use Rattle.start.specs.Start.{startHeads, startTerms}
+use Rattle.start.specs.Start.{startEntries, startHeads, startTerms}
+use Rattle.start.proofs.Laws.Heads.{start-below}
 use Rattle.start.proofs.Public.{public-start}
-use Rattle.verdict.specs.Buffer.{stepsIn}
+use Rattle.verdict.specs.Buffer.{gainedIn, usedIn, remainderIn, stepsIn}
 use Rattle.verdict.specs.Demands.{verdictCode, goalTerm, gainedHeads, Passes, Meets}
 use Rattle.verdict.proofs.Laws.Demands.{start-is-heads}
 use Rattle.verdict.proofs.Unique.{steps-count}
@@ -72,6 +82,42 @@ module _ {s : List ℕ} {cut budget : ℕ} {old out : List ℕ} {answer : ℕ} (
   stopped-used-up l =
       let (q, u, f) = course-stopped (m .course) (is-stopped l) in
       (named exhausted (is-stopped l) ∙ ap (λ (k : ℕ). 3000 + k) (sym (steps-count out (m .count)) ∙ q), f)
+
+  -- document 02, E5: "what the stranger still lacks". At out of reach, of the goal the sum of the remainder's terms is missing: it can't be derived
+  -- either, with it the goal can, and none of its entries is gained
+  module _ (l : 2000 ≤ answer) (h : answer < 3000) where
+    abbrev lacked : Term
+    lacked = sumOfSet (termAt (entryAt s)) (countOf s) (remainderIn out)
+
+    pub out-missing : Missing (entryAt s) (countOf s) (gainedHeads s cut (m .count) out) (goalOf s) (usedIn out) (remainderIn out) × (¬ (remainderIn out ≡ 0))
+    out-missing = (m .missing (is-out l h), m .lacking (is-out l h))
+
+    pub missing-ungained : (e : ℕ) → member (remainderIn out) e ≡ true → ¬ (member (gainedIn out) e ≡ true)
+    missing-ungained e i g = remainder-unknown (entryAt s) (countOf s) (good s ok .downward) (out-missing .0) e i (m .known e .0 g)
+
+    -- what is used was gained
+    used-derivable : cut ≤ traceLength s → (j : ℕ) → member (usedIn out) j ≡ true → Derivable (startTerms s cut) (termAt (entryAt s) j)
+    used-derivable within j i =
+        trace-derivable (entryAt s) (countOf s) (good s ok .downward) (startEntries s cut) (start-below s ok cut within) (termAt (entryAt s) j) .1
+        (sound-heads (entryAt s) (countOf s) (good s ok .downward) (startHeads s cut) (stepsIn out (m .count)) (start-is-heads s cut budget ok within) (course-made (m .course)) j
+        (drawn-known (termAt (entryAt s)) (countOf s) (gainedHeads s cut (m .count) out) j (out-missing .0 .drawn j i)))
+
+    pub missing-underivable : cut ≤ traceLength s → ¬ Derivable (startTerms s cut) lacked
+    missing-underivable within d =
+        out-underivable l h (missing-enough (entryAt s) (countOf s) (good s ok .downward) (out-missing .0) (startTerms s cut) (used-derivable within) d)
+
+    pub missing-suffices : cut ≤ traceLength s → Derivable (lacked ∷ startTerms s cut) (goalTerm s)
+    missing-suffices within =
+        missing-enough (entryAt s) (countOf s) (good s ok .downward) (out-missing .0) (lacked ∷ startTerms s cut)
+        (λ j i. derivable-kept (held-older lacked) (termAt (entryAt s) j) (used-derivable within j i))
+        (lacked ∷ startTerms s cut, begin, held-newest lacked)
+
+  -- "They are zero for the other verdicts"
+  pub reached-nothing : answer < 2000 → (usedIn out ≡ 0) × (remainderIn out ≡ 0)
+  reached-nothing h = m .others (λ p. let e = named underivable p in omega arith)
+
+  pub stopped-nothing : 3000 ≤ answer → (usedIn out ≡ 0) × (remainderIn out ≡ 0)
+  stopped-nothing l = m .others (λ p. let e = named underivable p in omega (arith, at-most))
 
   -- document 02, E2: "A stranger knows them without listening". A public atom as goal is reached at every cut, with every budget, without a rung
   pub public-reached : (a : ℕ) → entryAt s (goalOf s) ≡ Atom a → a < 256 → cut ≤ traceLength s → answer ≡ 1000

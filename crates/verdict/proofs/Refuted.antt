@@ -1,7 +1,7 @@
 -- Wrong answers and wrong ladders on small sheets, proved not to meet the demands or not to pass, whatever the buffers hold. Each would pass a weaker definition.
 -- Shown: on sheet A a rung too many, a rung missing, out of reach for a derivable goal, reached beyond the budget, a copied rung, a head too many or
 -- too few in the gained set; a wrong source and a missed goal in the replay; out of reach before the last rung; a public atom out of reach, atom 256
--- reached, a public atom gained by its own number, or after the heard messages. By computation. Assumes nothing.
+-- reached, a public atom gained by its own number, or after the heard messages; other used sets and remainders. By computation. Assumes nothing.
 use mathlib.Core.Path.{_≡_, refl, sym, ap, ap₂, _∙_, subst}
 use mathlib.Core.Bool.{true, false, true≢false}
 use mathlib.Core.Logic.{inl, inr, _↔_}
@@ -28,11 +28,11 @@ use Rattle.dag.specs.Record.{entryAt, fits, decodeAs}
 use Rattle.dag.specs.Refusal.{when, orElse, first, equal, anyFrom, noSheet, badCount, shortList, badPair, badPairs, badRecord, badRecords, notListed, refusal}
 use Rattle.dag.proofs.Laws.Good.{good}
 use Rattle.start.specs.Start.{isPublic, publicHeads, startEntries, startHeads, startTerms}
-use Rattle.verdict.specs.Buffer.{gainedIn, stepsIn}
+use Rattle.verdict.specs.Buffer.{gainedIn, usedIn, remainderIn, stepsIn}
 use Rattle.verdict.specs.Demands.{verdictCode, Passes, Meets}
-use Rattle.verdict.specs.Answer.{outcomeOf}
-use Rattle.verdict.specs.Card.{head, sheetA, sheet255, sheet256, sheetTwice, sheetMasked, sumStep, openStep, unmaskStep}
-use Rattle.verdict.proofs.Unique.{as-run, answer-run, known-run}
+use Rattle.verdict.specs.Answer.{outcomeOf, missingAs, missingOf}
+use Rattle.verdict.specs.Card.{head, sheetA, sheet255, sheet256, sheetTwice, sheetMasked, sheetPad, sheetOther, sheetBelow, sheetDrawn, sumStep, openStep, unmaskStep}
+use Rattle.verdict.proofs.Unique.{as-run, answer-run, known-run, missing-run}
 
 -- An atom and zero, nothing heard, the atom as goal: it is out of reach after one rung, the sum of nothing
 abbrev pub sheetZ : List ℕ
@@ -119,6 +119,56 @@ module _ (old out : List ℕ) where
   -- the heard messages gained ahead of the public atom: the sum would draw on entries 0, 2 and 4
   pub drawn-late : {answer : ℕ} (m : Meets sheetMasked 3 256 old out answer) → ¬ (stepsIn out (m .count) ≡ step 3 6 unused unused 21 ∷ [])
   drawn-late m p = omega (arith, ap (λ (l : List Step). getD l 0 sumStep .set) (sym (only-steps (runs .7) m) ∙ p))
+
+-- what is missing on a sheet, by the sum test
+abbrev Lacks : List ℕ → ℕ → ℕ → ℕ → ℕ → Type 0
+Lacks s cut budget used remainder =
+    (refusal s ≡ 0) × (cut ≤ traceLength s) × (missingOf s cut budget .used ≡ used) × (missingOf s cut budget .remainder ≡ remainder)
+
+lacks : Lacks sheetPad 1 256 4 1 × Lacks sheetOther 1 256 4 1 × Lacks sheetBelow 1 256 4 9 × Lacks sheetDrawn 3 256 3 8 × Lacks sheetA 3 0 0 0
+unfolding missingAs missingOf outcomeOf refusal noSheet badCount shortList badPair badPairs badRecord badRecords notListed when orElse first equal anyFrom fits decodeAs numberAt beginAt listed parts shape alike least xorAll firstAlike standardSet buildSet sets setAt repAt isPublic publicHeads take-off reduceFrom reduce addRow learnAs learnAll nothing knowledge offer opened built offers allOffers leastOf isSumOf nextNumber secondPart expand stepAt after reached nextStep goesOn ended run member insert highest leading
+lacks = (
+  (refl, omega arith, refl, refl),
+  (refl, omega arith, refl, refl),
+  (refl, omega arith, refl, refl),
+  (refl, omega arith, refl, refl),
+  (refl, omega arith, refl, refl),
+)
+
+-- only these two sets meet the demands there
+module _ {s : List ℕ} {cut budget used remainder : ℕ} (r : Lacks s cut budget used remainder) {old out : List ℕ} {answer : ℕ} (m : Meets s cut budget old out answer) where
+  only-used : usedIn out ≡ used
+  only-used = missing-run s cut budget (r .0) (r .1) m .0 ∙ r .2
+
+  only-remainder : remainderIn out ≡ remainder
+  only-remainder = missing-run s cut budget (r .0) (r .1) m .1 ∙ r .3
+
+module _ {old out : List ℕ} {answer : ℕ} where
+  -- used set and remainder exchanged; nothing used, and the goal's own set left; nothing missing at all
+  pub missing-exchanged : Meets sheetPad 1 256 old out answer → ¬ ((usedIn out ≡ 1) × (remainderIn out ≡ 4))
+  missing-exchanged m (p, q) = omega (arith, only-used (lacks .0) m)
+
+  pub missing-own-set : Meets sheetPad 1 256 old out answer → ¬ ((usedIn out ≡ 0) × (remainderIn out ≡ 2))
+  missing-own-set m (p, q) = omega (arith, only-used (lacks .0) m)
+
+  pub missing-nothing : Meets sheetPad 1 256 old out answer → ¬ (remainderIn out ≡ 0)
+  missing-nothing m p = omega (arith, only-remainder (lacks .0) m)
+
+  -- the goal's own number, where its head is another
+  pub missing-own-number : Meets sheetOther 1 256 old out answer → ¬ ((usedIn out ≡ 0) × (remainderIn out ≡ 8))
+  missing-own-number m (p, q) = omega (arith, only-used (lacks .1) m)
+
+  -- entry 1, the highest-numbered one of the known sum, left below entry 3, which is none
+  pub missing-at-its-top : Meets sheetBelow 1 256 old out answer → ¬ ((usedIn out ≡ 0) × (remainderIn out ≡ 10))
+  missing-at-its-top m (p, q) = omega (arith, only-used (lacks .2) m)
+
+  -- entry 2 used, which was a sum of entries 0 and 1 when it was heard
+  pub used-not-drawn : Meets sheetDrawn 3 256 old out answer → ¬ ((usedIn out ≡ 4) × (remainderIn out ≡ 8))
+  used-not-drawn m (p, q) = omega (arith, only-used (lacks .3) m)
+
+  -- something missing at stopped
+  pub missing-at-stopped : Meets sheetA 3 0 old out answer → ¬ (remainderIn out ≡ 8)
+  missing-at-stopped m p = omega (arith, only-remainder (lacks .4) m)
 
 -- the replay on sheet A: the entries gained at the start, its seal, and every entry its own head
 replay-A : (startEntries sheetA 3 ≡ 2 ∷ 4 ∷ 1 ∷ []) × (termAt (entryAt sheetA) 4 ≡ enc (termAt (entryAt sheetA) 3) (termAt (entryAt sheetA) 0))

@@ -1,6 +1,6 @@
 -- What is missing of an entry: the sum test finds it, and there is only one.
--- Shown: `missing-found`, used set and remainder of the sum test are what is missing of an entry; `missing-is`, whatever is missing is these two sets, so
--- `missing-unique`. No entry of the remainder is known (`remainder-unknown`); the remainder isn't empty where no step follows and the entry isn't known
+-- Shown: `missing-found`, used set and remainder of the sum test are what is missing of an entry; `missing-is`, whatever is missing is these two sets; so
+-- for any known heads there is exactly one such pair, `missing-exists` and `missing-unique`. No entry of the remainder is known (`remainder-unknown`); the remainder isn't empty where no step follows and the entry isn't known
 -- (`missing-some`); who can derive its sum can derive the entry's term (`missing-enough`). Assumes nothing.
 use mathlib.Core.Path.{_≡_, refl, sym, ap, ap₂, _∙_, subst}
 use mathlib.Core.Bool.{Bool, true, false, true≢false}
@@ -35,8 +35,35 @@ use Rattle.deduction.proofs.Standard.Members.{members-le, standard-set}
 use Rattle.deduction.proofs.Standard.Codes.{codeAt, code-sumOfSet, code-set}
 use Rattle.deduction.proofs.Standard.Independent.{set-standard, sum-standard, standard-sets-same}
 use Rattle.deduction.proofs.Standard.SumTest.{code-over, over-standard, sum-test-total}
-use Rattle.deduction.proofs.Steps.Head.{rep-is-head}
+use Rattle.deduction.proofs.Steps.Head.{Heads, rep-is-head}
+use Rattle.deduction.proofs.Steps.Next.{knowledge-learnt}
 use Rattle.deduction.proofs.Steps.Drawn.{drawn-independent}
+
+module _ (e : ℕ → Entry) (n : ℕ) (down : Downward e n) {es : List ℕ} where
+  -- a known standard entry leads
+  known-leads : (j : ℕ) → j < n → standard e j ≡ true → List·Memᴰ j es → Leads e n es j
+  unfolding sumOf
+  known-leads j low s c =
+      record {
+        items = j ∷ [];
+        known = λ x m. subst (λ (y : ℕ). List·Memᴰ y es) (sym (List·Memᴰ·eq-of-singleton m)) c;
+        set = setAt e j;
+        standards = set-standard e n down j low;
+        same = then unit (set-sum e n down j low);
+        inside = ap (λ (x : ℕ). member x j) (standard-set e n down j low s) ∙ member-single j j ∙ eq-eqb j j refl;
+        highest = λ x m. members-le e n down j low x m;
+      }
+
+  -- what the two sets mean
+  module _ {i u r : ℕ} (m : Missing e n es i u r) where
+    -- no entry of the remainder is known
+    pub remainder-unknown : (j : ℕ) → member r j ≡ true → ¬ List·Memᴰ j es
+    remainder-unknown j h c = let (lj, s) = m .standards j h in m .bare j h (known-leads j lj s c)
+
+    -- with the used terms, who can derive the sum of the remainder's terms can derive the entry's
+    pub missing-enough : (start : List Term) → ((j : ℕ) → member u j ≡ true → Derivable start (termAt e j))
+        → Derivable start (sumOfSet (termAt e) n r) → Derivable start (termAt e i)
+    missing-enough start each rest = derive-same (derive-sum (derive-set (termAt e) n u each) rest) (flip (m .total))
 
 module _ (e : ℕ → Entry) (n : ℕ) (down : Downward e n) {es : List ℕ} {k : Knowledge} (l : Learnt (setAt e) n es k) where
   -- the set of a sum of known terms is in the span of their sets
@@ -70,20 +97,6 @@ module _ (e : ℕ → Entry) (n : ℕ) (down : Downward e n) {es : List ℕ} {k 
         same = by-code (code-items e n down js below ∙ ap (xorOver (codeAt e) n) is ∙ sym (code-sumOfSet (termAt e) n w));
         inside = leading-member w (omega arith);
         highest = λ j m. leading-top w j m;
-      }
-
-  -- a known standard entry leads
-  known-leads : (j : ℕ) → j < n → standard e j ≡ true → List·Memᴰ j es → Leads e n es j
-  unfolding sumOf
-  known-leads j low s c =
-      record {
-        items = j ∷ [];
-        known = λ x m. subst (λ (y : ℕ). List·Memᴰ y es) (sym (List·Memᴰ·eq-of-singleton m)) c;
-        set = setAt e j;
-        standards = set-standard e n down j low;
-        same = then unit (set-sum e n down j low);
-        inside = ap (λ (x : ℕ). member x j) (standard-set e n down j low s) ∙ member-single j j ∙ eq-eqb j j refl;
-        highest = λ x m. members-le e n down j low x m;
       }
 
   module _ (i : ℕ) (low : i < n) where
@@ -134,10 +147,6 @@ module _ (e : ℕ → Entry) (n : ℕ) (down : Downward e n) {es : List ℕ} {k 
             remainder-unique l (setAt e i) (xorOver (setAt e) n u) r split (xorOver-span (setAt e) es n u (λ j h. independent-learnt (free j h))) no-leading,
           )
 
-      -- no entry of the remainder is known
-      pub remainder-unknown : (j : ℕ) → member r j ≡ true → ¬ List·Memᴰ j es
-      remainder-unknown j h c = let (lj, s) = m .standards j h in m .bare j h (known-leads j lj s c)
-
       -- where no step follows and the entry isn't known, something remains
       pub missing-some : ¬ Holds (map (termAt e) es) (termAt e i) → ((s : Step) → ¬ Follows (termAt e) n es s) → ¬ (r ≡ 0)
       missing-some unknown stuck z =
@@ -151,11 +160,14 @@ module _ (e : ℕ → Entry) (n : ℕ) (down : Downward e n) {es : List ℕ} {k 
               ∙ ap (bitXor (code (sumOfSet (termAt e) n u))) (code-sumOfSet (termAt e) n r ∙ ap (xorOver (codeAt e) n) z ∙ xorOver-empty (codeAt e) n)
               ∙ xor-zero-r (code (sumOfSet (termAt e) n u))
 
-      -- with the used terms, who can derive the sum of the remainder's terms can derive the entry's
-      pub missing-enough : (start : List Term) → ((j : ℕ) → member u j ≡ true → Derivable start (termAt e j))
-          → Derivable start (sumOfSet (termAt e) n r) → Derivable start (termAt e i)
-      missing-enough start each rest = derive-same (derive-sum (derive-set (termAt e) n u each) rest) (flip (m .total))
+-- "which makes it unique": for any heads known, and any entry, there is exactly one such pair of sets
+module _ (e : ℕ → Entry) (n : ℕ) (down : Downward e n) (es : List ℕ) (hs : Heads e n es) (i : ℕ) (low : i < n) where
+  pub missing-exists : (u r : ℕ) × Missing e n es i u r
+  missing-exists = let l = knowledge-learnt e n down es hs in (_, _, missing-found e n down l i low)
 
-    -- "which makes it unique"
-    pub missing-unique : {u r u′ r′ : ℕ} → Missing e n es i u r → Missing e n es i u′ r′ → (u ≡ u′) × (r ≡ r′)
-    missing-unique m m′ = (missing-is m .0 ∙ sym (missing-is m′ .0), missing-is m .1 ∙ sym (missing-is m′ .1))
+  pub missing-unique : {u r u′ r′ : ℕ} → Missing e n es i u r → Missing e n es i u′ r′ → (u ≡ u′) × (r ≡ r′)
+  missing-unique m m′ =
+      let l = knowledge-learnt e n down es hs in
+      let (p, q) = missing-is e n down l i low m in
+      let (p′, q′) = missing-is e n down l i low m′ in
+      (p ∙ sym p′, q ∙ sym q′)
