@@ -8,7 +8,7 @@ mod kinds;
 #[allow(dead_code)]
 mod reading;
 use reading::{add, expected, one, read, single, size, start, work, Answer, Piece, Term};
-use sheets::{damage, random_entries, sheet, Entry, Random, ATOMS};
+use sheets::{damage, random_entries, sheet, Entry, Random, ATOMS, FRONT};
 use std::collections::BTreeSet;
 use std::rc::Rc;
 
@@ -107,7 +107,7 @@ impl Tally {
         let h = if s.len() >= 8 { u16::from_be_bytes([s[6], s[7]]).min(6) as u32 } else { 0 };
         for cut in 0..=h + 1 {
             for budget in [0, 1, 2, 3, 8, 256, 257, 65536] {
-                let room = 32 + 40 * budget.min(256) as usize;
+                let room = FRONT + 40 * budget.min(256) as usize;
                 let length = match r.below(4) {
                     0 => room - 1,
                     1 => room + r.below(50) as usize,
@@ -116,7 +116,7 @@ impl Tally {
                 self.call(s, cut, budget, length);
             }
         }
-        self.call(s, 65536, 0, 32);
+        self.call(s, 65536, 0, FRONT);
     }
 }
 
@@ -162,7 +162,7 @@ fn names_as_heard(t: &mut Tally) {
         let sheets = [sheet(&named, &heard, goal), sheet(&hidden, &names_first, goal)];
         for cut in [0, heard.len() / 2, heard.len()] {
             for budget in [0, 7, 256] {
-                let mut outs = [(); 2].map(|_| vec![0xa5u8; 32 + 40 * budget]);
+                let mut outs = [(); 2].map(|_| vec![0xa5u8; FRONT + 40 * budget]);
                 let cuts = [cut, cut + names.len()];
                 let answers = [0, 1].map(|i| verdict(&sheets[i], cuts[i] as u32, budget as u32, &mut outs[i]));
                 t.calls += 1;
@@ -212,12 +212,12 @@ fn cases(t: &mut Tally) -> u32 {
         }
     };
     let a = [Atom(1007), Atom(1009), Sum(vec![0, 1]), Atom(1012), Seal(3, 0)];
-    let room = 32 + 40 * 256;
+    let room = FRONT + 40 * 256;
     case("case 1", &a, &[2, 4, 1], 3, 3, 256, room, 1002);
-    case("case 2", &a, &[2, 4, 1], 3, 2, 0, 32, 2000);
-    case("case 3, budget 0", &a, &[2, 4, 1], 3, 3, 0, 32, 3000);
-    case("case 3, budget 1", &a, &[2, 4, 1], 3, 3, 1, 72, 3001);
-    case("case 3, budget 2", &a, &[2, 4, 1], 3, 3, 2, 112, 1002);
+    case("case 2", &a, &[2, 4, 1], 3, 2, 0, FRONT, 2000);
+    case("case 3, budget 0", &a, &[2, 4, 1], 3, 3, 0, FRONT, 3000);
+    case("case 3, budget 1", &a, &[2, 4, 1], 3, 3, 1, FRONT + 40, 3001);
+    case("case 3, budget 2", &a, &[2, 4, 1], 3, 3, 2, FRONT + 80, 1002);
     case("case 4", &[Zero], &[], 0, 0, 256, room, 1001);
     case("case 5", &[Zero, Pair(0, 0)], &[], 1, 0, 256, room, 1002);
     case("case 6", &[Atom(1001), Sum(vec![0, 0]), Sum(vec![0, 1])], &[2], 0, 1, 256, room, 1000);
@@ -230,18 +230,18 @@ fn cases(t: &mut Tally) -> u32 {
     case("64 items", &[Atom(1001), Sum(vec![0; 64])], &[1], 1, 1, 256, room, 1000);
     case("65 items", &[Atom(1001), Sum(vec![0; 65])], &[1], 1, 1, 256, room, 5);
     case("an item equal to its own entry", &[Atom(1001), Sum(vec![1])], &[1], 1, 1, 256, room, 6);
-    case("cut h", &[Atom(1001)], &[0], 0, 1, 0, 32, 1000);
-    case("cut h + 1", &[Atom(1001)], &[0], 0, 2, 0, 32, 8);
+    case("cut h", &[Atom(1001)], &[0], 0, 1, 0, FRONT, 1000);
+    case("cut h + 1", &[Atom(1001)], &[0], 0, 2, 0, FRONT, 8);
     case("budget 256", &[Atom(1001)], &[0], 0, 1, 256, room, 1000);
     case("budget 257", &[Atom(1001)], &[0], 0, 1, 257, 65536, 9);
-    case("32 bytes at budget 0", &[Atom(1001)], &[0], 0, 1, 0, 32, 1000);
+    case("32 bytes at budget 0", &[Atom(1001)], &[0], 0, 1, 0, FRONT, 1000);
     case("31 bytes at budget 0", &[Atom(1001)], &[0], 0, 1, 0, 31, 10);
     // E2
-    case("the first name", &[Atom(0)], &[], 0, 0, 0, 32, 1000);
-    case("the last name", &[Atom(255)], &[], 0, 0, 0, 32, 1000);
-    case("no name", &[Atom(256)], &[], 0, 0, 0, 32, 2000);
+    case("the first name", &[Atom(0)], &[], 0, 0, 0, FRONT, 1000);
+    case("the last name", &[Atom(255)], &[], 0, 0, 0, FRONT, 1000);
+    case("no name", &[Atom(256)], &[], 0, 0, 0, FRONT, 2000);
     case("zero is no name", &[Zero, Atom(0)], &[], 0, 0, 256, room, 1001);
-    case("a name twice", &[Atom(9), Atom(9)], &[], 1, 0, 0, 32, 1000);
+    case("a name twice", &[Atom(9), Atom(9)], &[], 1, 0, 0, FRONT, 1000);
     let masked = [Atom(1000), Atom(7), Sum(vec![0, 1]), Atom(1001), Sum(vec![1, 3])];
     case("masked with a name, nothing heard", &masked, &[0, 2, 4], 3, 0, 256, room, 2000);
     case("masked with a name", &masked, &[0, 2, 4], 3, 3, 256, room, 1001);
@@ -253,11 +253,11 @@ fn cases(t: &mut Tally) -> u32 {
 fn large(t: &mut Tally) -> u32 {
     use Entry::*;
     let mut wrong = 0;
-    let room = 32 + 40 * 256;
+    let room = FRONT + 40 * 256;
     let mut buffer = vec![0u8; room];
     let mut want = |what: &str, s: &[u8], cut: u32, budget: u32, number: u32| {
         t.calls += 1;
-        let got = verdict(s, cut, budget, &mut buffer[..32 + 40 * budget as usize]);
+        let got = verdict(s, cut, budget, &mut buffer[..FRONT + 40 * budget as usize]);
         if got != number {
             wrong += 1;
             println!("{what}: {got}, wanted {number}");
@@ -296,16 +296,16 @@ fn large(t: &mut Tally) -> u32 {
 fn every_entry(t: &mut Tally) {
     let atoms: Vec<Entry> = (0..256).map(|i| Entry::Atom(1000 + i)).collect();
     for e in 0..256 {
-        t.call(&sheet(&atoms, &[e], e), 1, 0, 32);
+        t.call(&sheet(&atoms, &[e], e), 1, 0, FRONT);
         let mut named = atoms.clone();
         named[usize::from(e)] = Entry::Atom(255 - e);
-        t.call(&sheet(&named, &[], e), 0, 0, 32);
+        t.call(&sheet(&named, &[], e), 0, 0, FRONT);
     }
     for e in 0..254 {
         let f = (e + 61) % 254;
         let mut entries = atoms[..254].to_vec();
         entries.extend([Entry::Sum(vec![e, f]), Entry::Pair(e, f)]);
-        t.call(&sheet(&entries, &[254, f], 255), 2, 2, 112);
+        t.call(&sheet(&entries, &[254, f], 255), 2, 2, FRONT + 80);
     }
 }
 

@@ -1,8 +1,8 @@
 // Documents 01 and 02 read a second time, word by word: terms as nested sets, sums over all subsets, the whole answer and buffer of a call. It
 // shares no code with the library.
 
-use super::sheets::refusal;
-use std::collections::BTreeSet;
+use super::sheets::{refusal, FRONT};
+use std::collections::{BTreeMap, BTreeSet};
 use std::rc::Rc;
 
 // ---- terms: a set of pieces is their sum
@@ -44,6 +44,7 @@ pub fn size(t: &Term) -> usize {
 // ---- a sheet read back from its bytes
 
 pub struct Sheet {
+    pub kinds: Vec<u8>,
     pub terms: Vec<Term>,
     // the atoms 0 to 255 on the sheet, in rising entry order
     pub label: Vec<usize>,
@@ -54,6 +55,7 @@ pub struct Sheet {
 pub fn read(s: &[u8]) -> Sheet {
     let number = |i: usize| (s[i] as usize) * 256 + s[i + 1] as usize;
     let (n, h, goal) = (number(4), number(6), number(8));
+    let kinds = (0..n).map(|i| s[number(10 + 4 * i)]).collect();
     let mut terms: Vec<Term> = Vec::new();
     for i in 0..n {
         let (at, len) = (number(10 + 4 * i), number(12 + 4 * i));
@@ -68,7 +70,7 @@ pub fn read(s: &[u8]) -> Sheet {
         terms.push(new);
     }
     let label = (0..n).filter(|i| matches!(s[number(10 + 4 * i)..], [1, high, low, ..] if high as usize * 256 + low as usize <= 255)).collect();
-    Sheet { terms, label, heard: (0..h).map(|k| number(10 + 4 * n + 2 * k)).collect(), goal }
+    Sheet { kinds, terms, label, heard: (0..h).map(|k| number(10 + 4 * n + 2 * k)).collect(), goal }
 }
 
 // ---- document 01, "Rungs", word by word
@@ -83,9 +85,9 @@ pub struct Rung {
 }
 
 pub struct Work {
-    heads: Vec<usize>,      // each entry's head
+    pub heads: Vec<usize>,  // each entry's head
     pub gained: Vec<usize>, // gained heads, in order
-    drawn: Vec<usize>,      // those that were not, when gained, a sum of those gained earlier
+    pub drawn: Vec<usize>,  // those that were not, when gained, a sum of those gained earlier
 }
 
 fn sum_of(sheet: &Sheet, set: &[usize]) -> Term {
@@ -172,9 +174,13 @@ pub fn start(sheet: &Sheet, cut: usize) -> Vec<usize> {
     sheet.label.iter().chain(&sheet.heard[..cut]).copied().collect()
 }
 
+// Each entry's head: "the lowest-numbered entry that is the same term".
+pub fn heads(sheet: &Sheet) -> Vec<usize> {
+    (0..sheet.terms.len()).map(|i| (0..=i).find(|&j| sheet.terms[j] == sheet.terms[i]).unwrap()).collect()
+}
+
 pub fn work(sheet: &Sheet, cut: usize, budget: usize) -> (Answer, Vec<Rung>, Work) {
-    let heads = (0..sheet.terms.len()).map(|i| (0..=i).find(|&j| sheet.terms[j] == sheet.terms[i]).unwrap()).collect();
-    let mut w = Work { heads, gained: vec![], drawn: vec![] };
+    let mut w = Work { heads: heads(sheet), gained: vec![], drawn: vec![] };
     for i in start(sheet, cut) {
         let head = w.heads[i];
         w.gain(sheet, head);
@@ -196,6 +202,56 @@ pub fn work(sheet: &Sheet, cut: usize, budget: usize) -> (Answer, Vec<Rung>, Wor
         rungs.push(rung);
     }
 }
+
+// ---- document 02, E5, word by word
+
+pub type Set = BTreeSet<usize>;
+
+// The standard entries, each by its term's one piece: "A standard entry is a head of kind 1, 2 or 3" (document 01).
+pub fn standard<'a>(sheet: &'a Sheet, heads: &[usize]) -> BTreeMap<&'a Piece, usize> {
+    let heads = (0..heads.len()).filter(|&i| heads[i] == i && matches!(sheet.kinds[i], 1..=3));
+    heads.map(|i| (single(&sheet.terms[i]).expect("an atom, a pair and a seal are one piece"), i)).collect()
+}
+
+// The set of standard entries whose sum this term is: "Every entry's term is the sum of exactly one set of standard entries, possibly none".
+pub fn standard_set(standard: &BTreeMap<&Piece, usize>, t: &Term) -> Set {
+    t.iter().map(|p| standard[p]).collect()
+}
+
+// Every set of these entries, and the sum of its terms.
+pub fn all_sums(sheet: &Sheet, from: &[usize]) -> Vec<(Set, Term)> {
+    assert!(from.len() <= 12);
+    let mut all = vec![(Set::new(), Rc::new(BTreeSet::new()))];
+    for &e in from {
+        let with: Vec<(Set, Term)> = all.iter().map(|(set, sum)| (set | &Set::from([e]), add(sum, &sheet.terms[e]))).collect();
+        all.extend(with);
+    }
+    all
+}
+
+// Each "standard entry that is the highest-numbered one in some sum of gained terms". A term that is added twice falls out of a sum, so all sums are
+// those over the sets of gained terms.
+pub fn highest(sheet: &Sheet, w: &Work) -> Set {
+    let standard = standard(sheet, &w.heads);
+    all_sums(sheet, &w.gained).iter().filter_map(|(_, sum)| standard_set(&standard, sum).last().copied()).collect()
+}
+
+// The used set and the remainder: "used terms and remainder sum to the goal. The remainder holds no standard entry that is the highest-numbered one in
+// some sum of gained terms, which makes it unique. The used set draws on the same gained terms as a sum rung." Each used set is tried. What is then left
+// of the goal is the sum of one set of standard entries, so no other can be the remainder.
+pub fn missing_part(sheet: &Sheet, w: &Work) -> (Set, Set) {
+    let (standard, highest) = (standard(sheet, &w.heads), highest(sheet, w));
+    let mut found = all_sums(sheet, &w.drawn).into_iter().filter_map(|(used, sum)| {
+        let remainder = standard_set(&standard, &add(&sheet.terms[sheet.goal], &sum));
+        remainder.is_disjoint(&highest).then_some((used, remainder))
+    });
+    let pair = found.next().expect("no used set with a remainder");
+    assert!(found.next().is_none(), "two used sets with a remainder");
+    assert!(!pair.1.is_empty(), "a goal out of reach that is a sum of gained terms");
+    pair
+}
+
+// ---- a call's number and buffer
 
 pub fn set_bytes(set: impl IntoIterator<Item = usize>) -> [u8; 32] {
     let mut b = [0u8; 32];
@@ -219,11 +275,13 @@ pub fn expected(s: &[u8], cut: u32, budget: u32, buffer: &[u8]) -> (u32, Vec<u8>
     if budget > 256 {
         return (9, same);
     }
-    if buffer.len() < 32 + 40 * budget as usize {
+    if buffer.len() < FRONT + 40 * budget as usize {
         return (10, same);
     }
     let (answer, rungs, w) = work(&sheet, cut as usize, budget as usize);
-    let mut after = set_bytes(w.gained.iter().copied()).to_vec();
+    // E5: "They are zero for the other verdicts."
+    let (used, remainder) = if let Answer::OutOfReach = answer { missing_part(&sheet, &w) } else { (Set::new(), Set::new()) };
+    let mut after = [set_bytes(w.gained.iter().copied()), set_bytes(used), set_bytes(remainder)].concat();
     for r in &rungs {
         for n in [r.head, r.rule, r.first, r.second] {
             after.extend((n as u16).to_be_bytes());
