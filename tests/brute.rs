@@ -1,5 +1,6 @@
 // The verdict, by brute force: the whole answer and buffer recomputed from the documents' text (reading.rs) and compared with the library, and
-// on the smallest sheets the claim "out of reach" tried against everything that can be made off the sheet up to a size.
+// on the smallest sheets the claim "out of reach" tried against everything that can be made off the sheet up to a size. On larger sheets, where sums
+// can't be tried one by one, what the text says of used set and remainder is checked of the library's bytes.
 
 #[allow(dead_code)] // each test uses a part
 mod sheets;
@@ -7,7 +8,8 @@ mod sheets;
 mod kinds;
 #[allow(dead_code)]
 mod reading;
-use reading::{add, expected, one, read, single, size, start, work, Answer, Piece, Term};
+use reading::{add, all_sums, expected, heads, highest, missing_part, one, read, set_bytes, single, size, standard, standard_set, start, work};
+use reading::{Answer, Piece, Set, Term};
 use sheets::{damage, random_entries, sheet, Entry, Random, ATOMS, FRONT};
 use std::collections::BTreeSet;
 use std::rc::Rc;
@@ -62,11 +64,17 @@ fn gains(start: &[Term], goal: &Term, largest: usize, most: usize) -> bool {
 
 // ---- the comparison
 
+// The members of a set's 32 bytes.
+fn members(bytes: &[u8]) -> Set {
+    (0..256).filter(|e| bytes[e / 8] >> (e % 8) & 1 == 1).collect()
+}
+
 struct Tally {
     calls: u64,
     failed: u64,
     reached: u64,
     out: u64,
+    used: u64, // out of reach, with a used set that isn't empty
     stopped: u64,
     refused: u64,
     // ends the test at the first failure, for libraries that are wrong on purpose
@@ -88,8 +96,21 @@ impl Tally {
             2 => self.out += 1,
             _ => self.stopped += 1,
         }
+        self.used += u64::from(number / 1000 == 2 && buffer[32..64] != [0; 32]);
         if got != number || area[16..16 + length] != buffer[..] || !guarded {
             self.fail(&format!("sheet {s:?} cut {cut} budget {budget} length {length}: library {got}, text {number}, guards kept: {guarded}"));
+        }
+    }
+
+    // One call whose number, used set and remainder are stated.
+    fn stated(&mut self, what: &str, s: &[u8], cut: usize, budget: usize, number: u32, used: &[u16], remainder: &[u16]) {
+        let mut buffer = vec![0xa5; FRONT + 40 * budget];
+        let got = verdict(s, cut as u32, budget as u32, &mut buffer);
+        self.calls += 1;
+        let sets = [used, remainder].map(|set| set_bytes(set.iter().map(|e| usize::from(*e)))).concat();
+        if got != number || buffer[32..FRONT] != sets[..] {
+            let [used, remainder] = [32..64, 64..FRONT].map(|place| members(&buffer[place]));
+            self.fail(&format!("{what}: {got}, used {used:?}, remainder {remainder:?}"));
         }
     }
 
@@ -108,9 +129,10 @@ impl Tally {
         for cut in 0..=h + 1 {
             for budget in [0, 1, 2, 3, 8, 256, 257, 65536] {
                 let room = FRONT + 40 * budget.min(256) as usize;
-                let length = match r.below(4) {
+                let length = match r.below(8) {
                     0 => room - 1,
-                    1 => room + r.below(50) as usize,
+                    1 => room - 1 - r.below(FRONT as u64) as usize,
+                    2..=3 => room + r.below(50) as usize,
                     _ => room,
                 };
                 self.call(s, cut, budget, length);
@@ -146,18 +168,33 @@ fn heard_sums(t: &mut Tally, r: &mut Random) {
     }
 }
 
+// Atoms, pairs and seals, and sums of them, some of which are heard; the goal is any entry. Mostly it is out of reach, with a used set.
+fn lacking_sums(t: &mut Tally, r: &mut Random) {
+    for _ in 0..2000 {
+        let (parts, sums) = (3 + r.below(4), 2 + r.below(4));
+        let part = |i: u64, r: &mut Random| match (i, r.below(8)) {
+            (2.., 0) => Entry::Pair(r.below(i) as u16, r.below(i) as u16),
+            (2.., 1) => Entry::Seal(r.below(i) as u16, r.below(i) as u16),
+            (_, 2) => Entry::Atom(r.below(256) as u16),
+            _ => Entry::Atom(1000 + i as u16),
+        };
+        let mut entries: Vec<Entry> = (0..parts).map(|i| part(i, r)).collect();
+        entries.extend((0..sums).map(|_| Entry::Sum((0..2 + r.below(3)).map(|_| r.below(parts) as u16).collect())));
+        let heard: Vec<u16> = (1..sums).map(|_| (parts + r.below(sums)) as u16).collect();
+        let s = sheet(&entries, &heard, r.below(parts + sums) as u16);
+        t.every_cut(&s, r);
+    }
+}
+
 // Larger sheets, on which sums can't be tried one by one: with names on the hull label the answer and every byte are those of the sheet that has
 // other atoms in their places, heard ahead of all messages.
 fn names_as_heard(t: &mut Tally) {
     for seed in 0..300 {
         let n = 20 + 10 * (seed as usize % 16);
-        let (drawn, heard, goal) = kinds::drawn(n, seed);
-        let names: Vec<u16> = (0..n as u16).step_by(3).filter(|i| matches!(drawn[usize::from(*i)], Entry::Atom(_))).collect();
-        let (mut named, mut hidden) = (drawn.clone(), drawn);
-        for i in &names {
-            named[usize::from(*i)] = Entry::Atom(i % 16);
-            hidden[usize::from(*i)] = Entry::Atom(2000 + i % 16);
-        }
+        let (named, heard, goal) = kinds::labelled(n, seed);
+        let names: Vec<u16> = (0..n as u16).filter(|i| matches!(named[usize::from(*i)], Entry::Atom(0..=255))).collect();
+        let hide = |e: &Entry| if let Entry::Atom(a @ 0..=255) = e { Entry::Atom(2000 + a) } else { e.clone() };
+        let hidden: Vec<Entry> = named.iter().map(hide).collect();
         let names_first = [names.clone(), heard.clone()].concat();
         let sheets = [sheet(&named, &heard, goal), sheet(&hidden, &names_first, goal)];
         for cut in [0, heard.len() / 2, heard.len()] {
@@ -168,6 +205,131 @@ fn names_as_heard(t: &mut Tally) {
                 t.calls += 1;
                 if answers[0] != answers[1] || outs[0] != outs[1] {
                     t.fail(&format!("names {named:?} heard {heard:?} goal {goal} cut {cut} budget {budget}: {answers:?}"));
+                }
+            }
+        }
+    }
+}
+
+// ---- used set and remainder by other ways than the reading's
+
+// The reading takes one remainder for each used set. Here, on smaller sheets, every pair of a used set and a set of standard entries is tried.
+fn every_pair(t: &mut Tally, r: &mut Random) -> u64 {
+    let mut tried = 0;
+    while tried < 2000 {
+        let (entries, heard, goal) = random_entries(r, 8);
+        let sheet = read(&sheet(&entries, &heard, goal));
+        let (answer, _, w) = work(&sheet, sheet.heard.len(), 256);
+        if !matches!(answer, Answer::OutOfReach) {
+            continue;
+        }
+        tried += 1;
+        let highest = highest(&sheet, &w);
+        let allowed: Vec<usize> = standard(&sheet, &w.heads).into_values().filter(|e| !highest.contains(e)).collect();
+        let mut pairs = vec![];
+        for (used, sum) in all_sums(&sheet, &w.drawn) {
+            let fits = |(_, rest): &(Set, Term)| add(&sum, rest) == sheet.terms[sheet.goal];
+            pairs.extend(all_sums(&sheet, &allowed).into_iter().filter(fits).map(|(remainder, _)| (used.clone(), remainder)));
+        }
+        if pairs != [missing_part(&sheet, &w)] {
+            t.fail(&format!("{entries:?} heard {heard:?} goal {goal}: {pairs:?}"));
+        }
+    }
+    tried
+}
+
+type Bits = [u128; 2];
+
+fn bits(set: &Set) -> Bits {
+    let mut b = [0; 2];
+    set.iter().for_each(|e| b[e / 128] |= 1 << (e % 128));
+    b
+}
+
+fn lowest(b: &Bits) -> Option<u32> {
+    (0..2).find(|&w| b[w] != 0).map(|w| 128 * w as u32 + b[w].trailing_zeros())
+}
+
+// How many of these sets are left when each that is a sum of those before it is left out. Rows are taken off by their lowest members.
+fn rank(sets: &[Bits]) -> usize {
+    let mut rows: Vec<Option<Bits>> = vec![None; 256];
+    for set in sets {
+        let mut rest = *set;
+        while let Some(low) = lowest(&rest) {
+            match rows[low as usize] {
+                Some(row) => rest = [rest[0] ^ row[0], rest[1] ^ row[1]],
+                None => {
+                    rows[low as usize] = Some(rest);
+                    break;
+                }
+            }
+        }
+    }
+    rows.iter().flatten().count()
+}
+
+// A sheet on which sums can't be tried one by one, with each entry's set of standard entries.
+struct Larger {
+    sheet: reading::Sheet,
+    heads: Vec<usize>,
+    sets: Vec<Set>,
+}
+
+impl Larger {
+    fn new(s: &[u8]) -> Larger {
+        let sheet = read(s);
+        let heads = heads(&sheet);
+        let standard = standard(&sheet, &heads);
+        let sets = sheet.terms.iter().map(|t| standard_set(&standard, t)).collect();
+        Larger { heads, sets, sheet }
+    }
+
+    // The gained heads in their order: the start, then each rung's head.
+    fn gained(&self, cut: usize, rungs: &[u8]) -> Vec<usize> {
+        let made = rungs.chunks(40).map(|rung| usize::from(u16::from_be_bytes([rung[0], rung[1]])));
+        start(&self.sheet, cut).into_iter().map(|e| self.heads[e]).chain(made).collect()
+    }
+
+    // Is this the highest-numbered entry in some sum of these? Then without the entries up to it fewer of them are left than with it.
+    fn highest(&self, gained: &[usize], e: usize) -> bool {
+        let from = |least: usize| rank(&gained.iter().map(|&g| bits(&self.sets[g].range(least..).copied().collect())).collect::<Vec<Bits>>());
+        from(e) > from(e + 1)
+    }
+
+    // Was this, when gained, no sum of those gained earlier?
+    fn drawn(&self, gained: &[usize], e: usize) -> bool {
+        let rows: Vec<Bits> = gained.iter().map(|&g| bits(&self.sets[g])).collect();
+        gained.iter().position(|&g| g == e).is_some_and(|k| rank(&rows[..=k]) > rank(&rows[..k]))
+    }
+
+    // The request's sentences, of a used set and a remainder.
+    fn holds(&self, gained: &[usize], used: &Set, remainder: &Set) -> bool {
+        let sum = used.iter().chain(remainder).fold(Rc::new(BTreeSet::new()), |sum: Term, &e| add(&sum, &self.sheet.terms[e]));
+        sum == self.sheet.terms[self.sheet.goal]
+            && !remainder.is_empty()
+            && remainder.iter().all(|&e| self.heads[e] == e && matches!(self.sheet.kinds[e], 1..=3) && !self.highest(gained, e))
+            && used.iter().all(|&e| self.drawn(gained, e))
+    }
+}
+
+// Larger sheets: what the request says of the pair of used set and remainder, of which there is one, holds of the library's bytes.
+fn larger_sheets(t: &mut Tally) {
+    for seed in 0..450 {
+        let n = 20 + 10 * (seed as usize % 16);
+        let (entries, heard, goal) = [kinds::drawn, kinds::labelled, kinds::lacking][seed as usize % 3](n, seed);
+        let s = sheet(&entries, &heard, goal);
+        let larger = Larger::new(&s);
+        for cut in [0, heard.len() / 4, heard.len() / 2, heard.len()] {
+            for budget in [0, 7, 256] {
+                let mut buffer = vec![0xa5; FRONT + 40 * budget];
+                let answer = verdict(&s, cut as u32, budget as u32, &mut buffer);
+                let [used, remainder] = [32..64, 64..FRONT].map(|place| members(&buffer[place]));
+                let gained = larger.gained(cut, &buffer[FRONT..][..40 * (answer % 1000) as usize]);
+                let zero = used.is_empty() && remainder.is_empty();
+                let holds = if answer / 1000 == 2 { larger.holds(&gained, &used, &remainder) } else { zero };
+                t.calls += 1;
+                if !holds || buffer[..32] != set_bytes(gained) {
+                    t.fail(&format!("{entries:?} heard {heard:?} goal {goal} cut {cut} budget {budget}: {answer}, used {used:?}, remainder {remainder:?}"));
                 }
             }
         }
@@ -234,8 +396,11 @@ fn cases(t: &mut Tally) -> u32 {
     case("cut h + 1", &[Atom(1001)], &[0], 0, 2, 0, FRONT, 8);
     case("budget 256", &[Atom(1001)], &[0], 0, 1, 256, room, 1000);
     case("budget 257", &[Atom(1001)], &[0], 0, 1, 257, 65536, 9);
-    case("32 bytes at budget 0", &[Atom(1001)], &[0], 0, 1, 0, FRONT, 1000);
-    case("31 bytes at budget 0", &[Atom(1001)], &[0], 0, 1, 0, 31, 10);
+    case("96 bytes at budget 0", &[Atom(1001)], &[0], 0, 1, 0, FRONT, 1000);
+    case("95 bytes at budget 0", &[Atom(1001)], &[0], 0, 1, 0, FRONT - 1, 10);
+    case("32 bytes at budget 0, enough before E5", &[Atom(1001)], &[0], 0, 1, 0, 32, 10);
+    case("no bytes at budget 0", &[Atom(1001)], &[0], 0, 1, 0, 0, 10);
+    case("one byte short at budget 256", &[Atom(1001)], &[0], 0, 1, 256, room - 1, 10);
     // E2
     case("the first name", &[Atom(0)], &[], 0, 0, 0, FRONT, 1000);
     case("the last name", &[Atom(255)], &[], 0, 0, 0, FRONT, 1000);
@@ -247,6 +412,75 @@ fn cases(t: &mut Tally) -> u32 {
     case("masked with a name", &masked, &[0, 2, 4], 3, 3, 256, room, 1001);
     case("masked with a name, heard in another order", &masked, &[4, 2, 0], 3, 1, 256, room, 1001);
     wrong
+}
+
+// Document 02, E5: used sets and remainders that are stated, at the whole list and budget 256. Each call's buffer is compared with the reading's too.
+fn missing_parts(t: &mut Tally) {
+    use Entry::*;
+    let mut case = |what: &str, entries: &[Entry], heard: &[u16], goal: u16, number: u32, used: &[u16], remainder: &[u16]| {
+        let s = sheet(entries, heard, goal);
+        t.call(&s, heard.len() as u32, 256, FRONT + 40 * 256);
+        t.stated(what, &s, heard.len(), 256, number, used, remainder);
+    };
+    // a, b, their sum, c, the sum of b and c; then two entries that are no heads, and the sum of a and c
+    let sums = [Atom(1000), Atom(1001), Sum(vec![0, 1]), Atom(1002), Sum(vec![1, 3]), Atom(1001), Sum(vec![3, 5]), Sum(vec![3, 0])];
+    case("nothing heard", &sums, &[], 1, 2000, &[], &[1]);
+    case("the higher item of a sum", &sums, &[2], 1, 2000, &[2], &[0]);
+    case("the lower item of a sum", &sums, &[2], 0, 2000, &[], &[0]);
+    case("the highest entry stays, a lower one goes", &sums, &[2], 4, 2000, &[2], &[0, 3]);
+    case("two sums heard", &sums, &[2, 4], 3, 2001, &[2, 4], &[0]);
+    case("the highest entry of a sum of two gained terms", &sums, &[4, 7], 1, 2001, &[4, 7], &[0]);
+    case("an atom that is no head", &sums, &[2], 5, 2000, &[2], &[0]);
+    case("a sum that is no head", &sums, &[2], 6, 2000, &[2], &[0, 3]);
+    case("a message that is no head", &sums, &[6], 3, 2000, &[4], &[1]);
+    let names = [Atom(0), Atom(255), Atom(256), Sum(vec![0, 1, 2]), Atom(0), Sum(vec![2, 4])];
+    case("two names used", &names, &[], 3, 2000, &[0, 1], &[2]);
+    case("a name used, which is no head", &names, &[], 5, 2000, &[0], &[2]);
+    case("names and a message give the goal", &names, &[5], 3, 1002, &[], &[]);
+    let split = [Atom(1000), Atom(1001), Pair(0, 1), Atom(1002), Sum(vec![0, 3]), Sum(vec![0, 1])];
+    case("a term used that a rung gained", &split, &[2], 4, 2003, &[0], &[3]);
+    case("a term gained by a sum, and thus not used", &split, &[5, 1], 4, 2002, &[1, 5], &[3]);
+    case("a pair lacks itself", &split, &[0], 2, 2000, &[], &[2]);
+    let sealed = [Atom(1001), Atom(1002), Seal(0, 1), Sum(vec![2, 0])];
+    case("case 8", &sealed, &[3, 1], 0, 2000, &[], &[0]);
+    case("the seal of case 8", &sealed, &[3, 1], 2, 2000, &[3], &[0]);
+}
+
+// Which gained terms are used depends on the order in which they were gained: one that was a sum of those gained earlier isn't.
+fn orders(t: &mut Tally) {
+    use Entry::*;
+    let mut case = |entries: &[Entry], heard: &[u16], goal: u16, number: u32, used: &[u16], remainder: &[u16]| {
+        let s = sheet(entries, heard, goal);
+        t.call(&s, heard.len() as u32, 256, FRONT + 40 * 256);
+        t.stated(&format!("heard in the order {heard:?}"), &s, heard.len(), 256, number, used, remainder);
+    };
+    // the sums of each two of a, b and c, and as goal that of c and d
+    let sums = [Atom(1000), Atom(1001), Atom(1002), Atom(1003), Sum(vec![0, 1]), Sum(vec![1, 2]), Sum(vec![0, 2]), Sum(vec![2, 3])];
+    for heard in [[4, 5, 6], [5, 4, 6]] {
+        case(&sums, &heard, 7, 2000, &[4, 5], &[0, 3]);
+    }
+    for heard in [[4, 6, 5], [6, 4, 5], [5, 6, 4], [6, 5, 4]] {
+        case(&sums, &heard, 7, 2000, &[6], &[0, 3]);
+    }
+    // a name is gained ahead of both messages
+    let named = [Atom(1000), Atom(7), Sum(vec![0, 1]), Atom(1001), Sum(vec![0, 3])];
+    case(&named, &[2, 0], 4, 2000, &[1, 2], &[3]);
+    case(&named, &[0, 2], 4, 2000, &[0], &[3]);
+}
+
+// "They are zero for the other verdicts", here where a sum test of the goal hands back other sets.
+fn zero_otherwise(t: &mut Tally) {
+    use Entry::*;
+    let a = sheet(&[Atom(1007), Atom(1009), Sum(vec![0, 1]), Atom(1012), Seal(3, 0)], &[2, 4, 1], 3);
+    t.stated("sheet A out of reach", &a, 2, 256, 2000, &[], &[3]);
+    t.stated("sheet A stopped, none made", &a, 3, 0, 3000, &[], &[]);
+    t.stated("sheet A stopped, one made", &a, 3, 1, 3001, &[], &[]);
+    t.stated("sheet A reached", &a, 3, 2, 1002, &[], &[]);
+    let b = sheet(&[Atom(1000), Zero, Atom(1001), Sum(vec![0, 2])], &[3], 2);
+    t.stated("stopped, with a used set and a remainder", &b, 1, 0, 3000, &[], &[]);
+    t.stated("the same sheet out of reach", &b, 1, 1, 2001, &[3], &[0]);
+    t.stated("reached by hearing", &sheet(&[Atom(1000)], &[0], 0), 1, 0, 1000, &[], &[]);
+    t.stated("reached by a name", &sheet(&[Atom(7)], &[], 0), 0, 0, 1000, &[], &[]);
 }
 
 // Large sheets, whose answers are known by their build.
@@ -291,6 +525,28 @@ fn large(t: &mut Tally) -> u32 {
     wrong
 }
 
+// Large sheets, whose used sets and remainders are known by their build.
+fn large_missing_parts(t: &mut Tally) {
+    use Entry::*;
+    // 85 times two atoms and their sum, which is heard; the goal is the sum of 64 upper atoms, so that it lacks as many lower ones
+    let mut triples: Vec<Entry> = (0..85).flat_map(|i| [Atom(1000 + 2 * i), Atom(1001 + 2 * i), Sum(vec![3 * i, 3 * i + 1])]).collect();
+    triples.push(Sum((21..85).map(|i| 3 * i + 1).collect()));
+    let heard: Vec<u16> = (0..85).map(|i| 3 * i + 2).collect();
+    let [lower, sums] = [0, 2].map(|k| (21..85).map(|i| 3 * i + k).collect::<Vec<u16>>());
+    t.stated("64 sums used", &sheet(&triples, &heard, 255), 85, 256, 2000, &sums, &lower);
+    // sums of neighbours: from the last atom all of them lead to the first
+    let mut chain: Vec<Entry> = (0..128).map(|i| Atom(1000 + i)).collect();
+    chain.extend((0..127).map(|i| Sum(vec![i, i + 1])));
+    let heard: Vec<u16> = (128..255).rev().collect();
+    t.stated("127 sums used", &sheet(&chain, &heard, 127), 127, 256, 2000, &(128..255).collect::<Vec<u16>>(), &[0]);
+    // 192 names and 63 other atoms; the goal is the sum of 48 names and 16 others
+    let mut named: Vec<Entry> = (0..192).map(Atom).collect();
+    named.extend((192..255).map(|i| Atom(1000 + i)));
+    named.push(Sum((0..64).map(|k| 4 * k + 2).collect()));
+    let [used, lacking]: [Vec<u16>; 2] = [(0..48).map(|k| 4 * k + 2).collect(), (48..64).map(|k| 4 * k + 2).collect()];
+    t.stated("names used", &sheet(&named, &[], 255), 0, 0, 2000, &used, &lacking);
+}
+
 // Each entry number in its own byte and bit, on sheets of 256 entries. Of 256 atoms one is heard, or is on the hull label, each with each of the 256
 // numbers of names once; and a sum of two atoms and the second of them are heard, by which a sum and a join gain the first and the pair of both.
 fn every_entry(t: &mut Tally) {
@@ -309,20 +565,46 @@ fn every_entry(t: &mut Tally) {
     }
 }
 
+// Each entry number alone in the remainder and alone in the used set, in its own byte and bit, on sheets of 256 entries.
+fn every_entry_missing(t: &mut Tally) {
+    let atoms: Vec<Entry> = (0..256).map(|i| Entry::Atom(1000 + i)).collect();
+    for e in 0..256 {
+        let alone = sheet(&atoms, &[], e);
+        t.call(&alone, 0, 0, FRONT);
+        t.stated("an atom lacks itself", &alone, 0, 0, 2000, &[], &[e]);
+        // an entry that can be a sum is one of two atoms, and its higher item is the goal; the first two entries are items of the goal
+        let mut entries = atoms.clone();
+        let (place, items, goal, lacking) = if e < 2 { (255, [e, 2], 255, 2) } else { (e, [(e - 1) / 2, e - 1], e - 1, (e - 1) / 2) };
+        entries[usize::from(place)] = Entry::Sum(items.to_vec());
+        let heard = sheet(&entries, &[e], goal);
+        t.call(&heard, 1, 0, FRONT);
+        t.stated("one entry used", &heard, 1, 0, 2000, &[e], &[lacking]);
+    }
+}
+
 fn main() {
     let first_only = std::env::args().nth(1).as_deref() == Some("first");
-    let mut t = Tally { calls: 0, failed: 0, reached: 0, out: 0, stopped: 0, refused: 0, first_only };
+    let mut t = Tally { calls: 0, failed: 0, reached: 0, out: 0, used: 0, stopped: 0, refused: 0, first_only };
     let mut r = Random(0x2545f4914f6cdd1d);
     let wrong = cases(&mut t) + large(&mut t);
+    missing_parts(&mut t);
+    orders(&mut t);
+    zero_otherwise(&mut t);
+    large_missing_parts(&mut t);
     every_entry(&mut t);
+    every_entry_missing(&mut t);
     small_sheets(&mut t, &mut r);
     heard_sums(&mut t, &mut r);
+    lacking_sums(&mut t, &mut r);
     names_as_heard(&mut t);
+    larger_sheets(&mut t);
+    let pairs = every_pair(&mut t, &mut r);
     let (tried, failed) = off_sheet(&mut r);
-    println!("brute force: {} calls, {} reached, {} out of reach, {} stopped, {} refused; off the sheet: {} tried", t.calls, t.reached, t.out, t.stopped, t.refused, tried);
+    println!("brute force: {} calls, {} reached, {} out of reach, {} of them with a used set, {} stopped, {} refused", t.calls, t.reached, t.out, t.used, t.stopped, t.refused);
+    println!("off the sheet: {tried} tried; every pair of used set and remainder: {pairs} sheets");
     let bad = t.failed + failed + wrong as u64;
     println!("brute: {} passed, {} failed", t.calls + tried - bad.min(t.calls + tried), bad);
-    if bad > 0 || t.reached < 1000 || t.out < 1000 || t.stopped < 1000 || t.refused < 1000 {
+    if bad > 0 || t.reached < 1000 || t.out < 1000 || t.used < 1000 || t.stopped < 1000 || t.refused < 1000 {
         std::process::exit(1);
     }
 }

@@ -1,5 +1,5 @@
 // Kinds of sheets for the benchmarks: each takes a number of entries and gives entries, heard messages and goal. The cut is the number of messages.
-// Atoms have numbers from 1,000 on, but for those of `names`.
+// Atoms have numbers from 1,000 on, but for those of `names`, `labelled` and `lacking`.
 
 use super::sheets::{Entry, Random};
 
@@ -92,6 +92,26 @@ pub fn drawn(n: usize, seed: u64) -> Parts {
     let goals: Vec<u16> = (0..n as u16).filter(|e| !heard.contains(e)).collect();
     let goal = goals[r.below(goals.len() as u64) as usize];
     (entries, heard, goal)
+}
+
+// The same, with names on the hull label in the places of some atoms.
+pub fn labelled(n: usize, seed: u64) -> Parts {
+    let (mut entries, heard, goal) = drawn(n, seed);
+    for i in (0..n).step_by(3).filter(|i| matches!(entries[*i], Entry::Atom(_))).collect::<Vec<usize>>() {
+        entries[i] = Entry::Atom(i as u16 % 16);
+    }
+    (entries, heard, goal)
+}
+
+// Half atoms, some of them on the hull label, and half sums of a few of them, of which some are heard. The goal is any entry: mostly it is out of
+// reach, and what is gained helps in part.
+pub fn lacking(n: usize, seed: u64) -> Parts {
+    let mut r = Random((n as u64) << 32 | seed << 16 | 0x5eed);
+    let (half, all) = (n as u64 / 2, n as u64);
+    let mut entries: Vec<Entry> = (0..half as u16).map(|i| if r.below(8) == 0 { Entry::Atom(i) } else { atom(i) }).collect();
+    entries.extend((half..all).map(|_| Entry::Sum((0..2 + r.below(4)).map(|_| r.below(half) as u16).collect())));
+    let heard = (0..n / 3).map(|_| (half + r.below(all - half)) as u16).collect();
+    (entries, heard, r.below(all) as u16)
 }
 
 // A chain of pairs over zero beside an atom that nothing gains: at every cut the whole chain is climbed, and the card has its longest work.
