@@ -6,10 +6,11 @@
 mod sheets;
 #[allow(dead_code)]
 mod kinds;
+mod larger;
 #[allow(dead_code)]
 mod reading;
-use reading::{add, all_sums, expected, heads, highest, missing_part, one, read, set_bytes, single, size, standard, standard_set, start, work};
-use reading::{Answer, Piece, Set, Term};
+use larger::Larger;
+use reading::{add, all_sums, expected, highest, members, missing_part, one, read, set_bytes, single, size, standard, start, work, Answer, Piece, Set, Term};
 use sheets::{damage, random_entries, sheet, Entry, Random, ATOMS, FRONT};
 use std::collections::BTreeSet;
 use std::rc::Rc;
@@ -63,11 +64,6 @@ fn gains(start: &[Term], goal: &Term, largest: usize, most: usize) -> bool {
 }
 
 // ---- the comparison
-
-// The members of a set's 32 bytes.
-fn members(bytes: &[u8]) -> Set {
-    (0..256).filter(|e| bytes[e / 8] >> (e % 8) & 1 == 1).collect()
-}
 
 struct Tally {
     calls: u64,
@@ -238,80 +234,6 @@ fn every_pair(t: &mut Tally, r: &mut Random) -> u64 {
     tried
 }
 
-type Bits = [u128; 2];
-
-fn bits(set: &Set) -> Bits {
-    let mut b = [0; 2];
-    set.iter().for_each(|e| b[e / 128] |= 1 << (e % 128));
-    b
-}
-
-fn lowest(b: &Bits) -> Option<u32> {
-    (0..2).find(|&w| b[w] != 0).map(|w| 128 * w as u32 + b[w].trailing_zeros())
-}
-
-// How many of these sets are left when each that is a sum of those before it is left out. Rows are taken off by their lowest members.
-fn rank(sets: &[Bits]) -> usize {
-    let mut rows: Vec<Option<Bits>> = vec![None; 256];
-    for set in sets {
-        let mut rest = *set;
-        while let Some(low) = lowest(&rest) {
-            match rows[low as usize] {
-                Some(row) => rest = [rest[0] ^ row[0], rest[1] ^ row[1]],
-                None => {
-                    rows[low as usize] = Some(rest);
-                    break;
-                }
-            }
-        }
-    }
-    rows.iter().flatten().count()
-}
-
-// A sheet on which sums can't be tried one by one, with each entry's set of standard entries.
-struct Larger {
-    sheet: reading::Sheet,
-    heads: Vec<usize>,
-    sets: Vec<Set>,
-}
-
-impl Larger {
-    fn new(s: &[u8]) -> Larger {
-        let sheet = read(s);
-        let heads = heads(&sheet);
-        let standard = standard(&sheet, &heads);
-        let sets = sheet.terms.iter().map(|t| standard_set(&standard, t)).collect();
-        Larger { heads, sets, sheet }
-    }
-
-    // The gained heads in their order: the start, then each rung's head.
-    fn gained(&self, cut: usize, rungs: &[u8]) -> Vec<usize> {
-        let made = rungs.chunks(40).map(|rung| usize::from(u16::from_be_bytes([rung[0], rung[1]])));
-        start(&self.sheet, cut).into_iter().map(|e| self.heads[e]).chain(made).collect()
-    }
-
-    // Is this the highest-numbered entry in some sum of these? Then without the entries up to it fewer of them are left than with it.
-    fn highest(&self, gained: &[usize], e: usize) -> bool {
-        let from = |least: usize| rank(&gained.iter().map(|&g| bits(&self.sets[g].range(least..).copied().collect())).collect::<Vec<Bits>>());
-        from(e) > from(e + 1)
-    }
-
-    // Was this, when gained, no sum of those gained earlier?
-    fn drawn(&self, gained: &[usize], e: usize) -> bool {
-        let rows: Vec<Bits> = gained.iter().map(|&g| bits(&self.sets[g])).collect();
-        gained.iter().position(|&g| g == e).is_some_and(|k| rank(&rows[..=k]) > rank(&rows[..k]))
-    }
-
-    // The request's sentences, of a used set and a remainder.
-    fn holds(&self, gained: &[usize], used: &Set, remainder: &Set) -> bool {
-        let sum = used.iter().chain(remainder).fold(Rc::new(BTreeSet::new()), |sum: Term, &e| add(&sum, &self.sheet.terms[e]));
-        sum == self.sheet.terms[self.sheet.goal]
-            && !remainder.is_empty()
-            && remainder.iter().all(|&e| self.heads[e] == e && matches!(self.sheet.kinds[e], 1..=3) && !self.highest(gained, e))
-            && used.iter().all(|&e| self.drawn(gained, e))
-    }
-}
-
 // Larger sheets: what the request says of the pair of used set and remainder, of which there is one, holds of the library's bytes.
 fn larger_sheets(t: &mut Tally) {
     for seed in 0..450 {
@@ -323,13 +245,10 @@ fn larger_sheets(t: &mut Tally) {
             for budget in [0, 7, 256] {
                 let mut buffer = vec![0xa5; FRONT + 40 * budget];
                 let answer = verdict(&s, cut as u32, budget as u32, &mut buffer);
-                let [used, remainder] = [32..64, 64..FRONT].map(|place| members(&buffer[place]));
-                let gained = larger.gained(cut, &buffer[FRONT..][..40 * (answer % 1000) as usize]);
-                let zero = used.is_empty() && remainder.is_empty();
-                let holds = if answer / 1000 == 2 { larger.holds(&gained, &used, &remainder) } else { zero };
                 t.calls += 1;
-                if !holds || buffer[..32] != set_bytes(gained) {
-                    t.fail(&format!("{entries:?} heard {heard:?} goal {goal} cut {cut} budget {budget}: {answer}, used {used:?}, remainder {remainder:?}"));
+                if !larger.holds(cut, answer, &buffer) {
+                    let sets = [0..32, 32..64, 64..FRONT].map(|place| members(&buffer[place]));
+                    t.fail(&format!("{entries:?} heard {heard:?} goal {goal} cut {cut} budget {budget}: {answer}, gained, used and remainder {sets:?}"));
                 }
             }
         }

@@ -8,23 +8,23 @@ use super::sheets::FRONT;
 
 const NO_STEP: u32 = 1 << 24;
 
-type Set = [u64; 4];
+pub type Set = [u64; 4];
 
-fn has(s: &Set, e: u8) -> bool {
+pub fn has(s: &Set, e: u8) -> bool {
     s[(e / 64) as usize] >> (e % 64) & 1 == 1
 }
 
-fn add(a: &Set, b: &Set) -> Set {
+pub fn add(a: &Set, b: &Set) -> Set {
     [a[0] ^ b[0], a[1] ^ b[1], a[2] ^ b[2], a[3] ^ b[3]]
 }
 
-fn single(e: u8) -> Set {
+pub fn single(e: u8) -> Set {
     let mut s = [0; 4];
     s[(e / 64) as usize] = 1 << (e % 64);
     s
 }
 
-fn leading(s: &Set) -> u8 {
+pub fn leading(s: &Set) -> u8 {
     for w in (0..4).rev() {
         if s[w] != 0 {
             return (64 * w as u32 + 63 - s[w].leading_zeros()) as u8;
@@ -33,10 +33,10 @@ fn leading(s: &Set) -> u8 {
     0
 }
 
-struct Tables {
+pub struct Tables {
     n: usize,
     keys: [u64; 256],
-    sets: [Set; 256],
+    pub sets: [Set; 256],
     reps: [u8; 256],
 }
 
@@ -72,11 +72,11 @@ fn tables(s: &[u8]) -> Tables {
 }
 
 // What is known, with its basis.
-struct State {
-    known: Set,
-    vectors: [Set; 256],
-    uses: [Set; 256],
-    len: usize,
+pub struct State {
+    pub known: Set,
+    pub vectors: [Set; 256],
+    pub uses: [Set; 256],
+    pub len: usize,
 }
 
 impl State {
@@ -84,7 +84,8 @@ impl State {
         State { known: [0; 4], vectors: [[0; 4]; 256], uses: [[0; 4]; 256], len: 0 }
     }
 
-    fn reduce(&self, set: &Set) -> (Set, Set) {
+    // What is left of the set when the rows are taken off it, and the gained terms used for that.
+    pub fn reduce(&self, set: &Set) -> (Set, Set) {
         let (mut v, mut used) = (*set, [0; 4]);
         for i in 0..self.len {
             if has(&v, leading(&self.vectors[i])) {
@@ -204,7 +205,17 @@ fn run(t: &Tables, s: &mut State, remainders: &mut [Set; 256], goal: u8, budget:
     }
 }
 
-fn judge<const BY_VALUE: bool>(sheet: &[u8], cut: u32, budget: u32, out: &mut [u8]) -> u32 {
+// The used set and the remainder of the goal at this answer.
+fn missing(t: &Tables, s: &State, goal: usize, answer: u32) -> [Set; 2] {
+    if answer / 1000 != 2 {
+        return [[0; 4]; 2];
+    }
+    let (remainder, used) = s.reduce(&t.sets[goal]);
+    [used, remainder]
+}
+
+// `missing` gives the two sets, so that it can be exchanged for a faulty one.
+fn judge<const BY_VALUE: bool>(sheet: &[u8], cut: u32, budget: u32, out: &mut [u8], missing: impl Fn(&Tables, &State, usize, u32) -> [Set; 2]) -> u32 {
     let refused = super::sheets::refusal(sheet);
     if refused != 0 {
         return refused;
@@ -236,7 +247,7 @@ fn judge<const BY_VALUE: bool>(sheet: &[u8], cut: u32, budget: u32, out: &mut [u
         s.sweep_added(before, &mut remainders[..t.n]);
     }
     let answer = run(&t, &mut s, &mut remainders, t.reps[at(8)], budget, out);
-    let (remainder, used) = if answer / 1000 == 2 { s.reduce(&t.sets[at(8)]) } else { ([0; 4], [0; 4]) };
+    let [used, remainder] = missing(&t, &s, at(8), answer);
     for (set, place) in [s.known, used, remainder].iter().zip(out[..FRONT].chunks_exact_mut(32)) {
         put_set(place, set);
     }
@@ -245,10 +256,15 @@ fn judge<const BY_VALUE: bool>(sheet: &[u8], cut: u32, budget: u32, out: &mut [u
 
 // The state is lent to each term heard.
 pub fn verdict(sheet: &[u8], cut: u32, budget: u32, out: &mut [u8]) -> u32 {
-    judge::<false>(sheet, cut, budget, out)
+    judge::<false>(sheet, cut, budget, out, missing)
+}
+
+// The same with other sets for the used set and the remainder.
+pub fn verdict_missing(sheet: &[u8], cut: u32, budget: u32, out: &mut [u8], missing: impl Fn(&Tables, &State, usize, u32) -> [Set; 2]) -> u32 {
+    judge::<false>(sheet, cut, budget, out, missing)
 }
 
 // The state is taken by each term heard, and handed back.
 pub fn verdict_by_value(sheet: &[u8], cut: u32, budget: u32, out: &mut [u8]) -> u32 {
-    judge::<true>(sheet, cut, budget, out)
+    judge::<true>(sheet, cut, budget, out, missing)
 }

@@ -261,6 +261,11 @@ pub fn set_bytes(set: impl IntoIterator<Item = usize>) -> [u8; 32] {
     b
 }
 
+// The members of a set's 32 bytes.
+pub fn members(bytes: &[u8]) -> Set {
+    (0..256).filter(|e| bytes[e / 8] >> (e % 8) & 1 == 1).collect()
+}
+
 // The number and the buffer that the documents ask for.
 pub fn expected(s: &[u8], cut: u32, budget: u32, buffer: &[u8]) -> (u32, Vec<u8>) {
     let same = buffer.to_vec();

@@ -4,6 +4,8 @@
 #[allow(dead_code)]
 mod sheets;
 mod plain;
+use plain::{add, has, leading, single, Set, State, Tables};
+use sheets::FRONT;
 use std::sync::OnceLock;
 
 fn fault() -> &'static str {
@@ -56,7 +58,69 @@ fn heard_late(s: &[u8], cut: u32) -> Vec<u8> {
     late
 }
 
-// The verdict on the sheet as a library with a faulty start would take it.
+// ---- E5: the used set and the remainder
+
+// Rows are taken off the goal only as long as the highest entry of what is left is a row's.
+fn only_at_top(s: &State, goal: &Set) -> [Set; 2] {
+    let [mut used, mut rest] = [[0; 4], *goal];
+    while let Some(i) = (0..s.len).find(|&i| rest != [0; 4] && leading(&s.vectors[i]) == leading(&rest)) {
+        rest = add(&rest, &s.vectors[i]);
+        used = add(&used, &s.uses[i]);
+    }
+    [used, rest]
+}
+
+// Each row has its lowest entry taken off, and not its highest.
+fn from_below(s: &State, goal: &Set) -> [Set; 2] {
+    let lowest = |row: &Set| (0..=255).find(|&e| has(row, e)).expect("a row isn't empty");
+    let mut rows: Vec<[Set; 2]> = vec![];
+    for (used, set) in s.uses.iter().zip(&s.vectors).take(s.len).chain([(&[0; 4], goal)]) {
+        let reduced = rows.iter().fold([*used, *set], |[used, rest], [by, row]| {
+            if has(&rest, lowest(row)) { [add(&used, by), add(&rest, row)] } else { [used, rest] }
+        });
+        rows.push(reduced);
+    }
+    rows[s.len]
+}
+
+// Another used set with the same sum, if there is a gained term that was a sum of used ones when gained: this term, in their place.
+fn from_all_gained(t: &Tables, s: &State, used: &Set) -> Set {
+    let drawn = |e: u8| s.uses[..s.len].iter().any(|by| has(by, e));
+    let within = |by: &Set| *by != [0; 4] && (0..4).all(|w| by[w] & !used[w] == 0);
+    let mut sums = (0..=255).filter(|&e| has(&s.known, e) && !drawn(e)).map(|e| (e, s.reduce(&t.sets[usize::from(e)]).1));
+    match sums.find(|(_, by)| within(by)) {
+        Some((e, by)) => add(&add(used, &by), &single(e)),
+        None => *used,
+    }
+}
+
+// The two sets as a library with a faulty sum test would hand them back.
+fn missing(t: &Tables, s: &State, goal: usize, answer: u32) -> [Set; 2] {
+    let (remainder, used) = s.reduce(&t.sets[goal]);
+    match (answer / 1000, fault()) {
+        (1, "written at reached too") | (3, "written at stopped too") => [used, remainder],
+        (1 | 3, _) => [[0; 4]; 2],
+        (_, "used and remainder exchanged") => [remainder, used],
+        (_, "the goal for the remainder") => [[0; 4], t.sets[goal]],
+        (_, "the remainder reduced only at its top") => only_at_top(s, &t.sets[goal]),
+        (_, "the lowest entry for the highest") => from_below(s, &t.sets[goal]),
+        (_, "used from all gained terms") => [from_all_gained(t, s, &used), remainder],
+        _ => [used, remainder],
+    }
+}
+
+// The verdict of a library that takes a buffer of 32 + 40b bytes: what fits is written.
+fn with_shorter_buffer(s: &[u8], cut: u32, budget: u32, out: &mut [u8]) -> u32 {
+    let mut longer = out.to_vec();
+    longer.resize(out.len() + FRONT - 32, 0);
+    let answer = plain::verdict(s, cut, budget, &mut longer);
+    out.copy_from_slice(&longer[..out.len()]);
+    answer
+}
+
+// ---- the whole call
+
+// The verdict on the sheet as a library with a faulty start or sum test would take it.
 fn verdict(s: &[u8], cut: u32, budget: u32, out: &mut [u8]) -> u32 {
     if sheets::refusal(s) != 0 || cut > u32::from(number(s, 6)) {
         return plain::verdict(s, cut, budget, out);
@@ -69,7 +133,40 @@ fn verdict(s: &[u8], cut: u32, budget: u32, out: &mut [u8]) -> u32 {
             let late = heard_late(s, cut);
             plain::verdict(&late, number(&late, 6).into(), budget, out)
         }
-        _ => plain::verdict(s, cut, budget, out),
+        "refusal 10 still at 32" => with_shorter_buffer(s, cut, budget, out),
+        _ => plain::verdict_missing(s, cut, budget, out, missing),
+    }
+}
+
+// The second and the third word of a set's 32 bytes.
+fn exchange_words(set: &mut [u8]) {
+    for i in 8..16 {
+        set.swap(i, i + 8);
+    }
+}
+
+// The bytes as a library with a faulty writer would leave them, after a call that isn't refused.
+fn write(s: &[u8], before: &[u8], out: &mut [u8], answer: u32) {
+    let rungs = (answer % 1000) as usize;
+    match fault() {
+        "the first rung copied" if rungs > 1 => out.copy_within(FRONT..FRONT + 40, FRONT + 40),
+        "a later byte changed" if out.len() > FRONT + 40 * rungs => out[FRONT + 40 * rungs] ^= 1,
+        "two words exchanged" => exchange_words(&mut out[..32]),
+        "two words of the used set exchanged" => exchange_words(&mut out[32..64]),
+        "two words of the remainder exchanged" => exchange_words(&mut out[64..FRONT]),
+        "used and remainder not written" => out[32..FRONT].copy_from_slice(&before[32..FRONT]),
+        "not zero for the other verdicts" if answer / 1000 != 2 => out[32..FRONT].copy_from_slice(&before[32..FRONT]),
+        "rungs still from byte 32" => {
+            let made = out[FRONT..FRONT + 40 * rungs].to_vec();
+            out[FRONT..].copy_from_slice(&before[FRONT..]);
+            out[32..32 + made.len()].copy_from_slice(&made);
+        }
+        "names by their own numbers" => {
+            for i in (0..number(s, 4)).filter(|&i| is_atom(s, i) && atom(s, i) < 256) {
+                out[usize::from(i / 8)] |= 1 << (i % 8);
+            }
+        }
+        _ => {}
     }
 }
 
@@ -79,34 +176,16 @@ pub unsafe extern "C" fn zuwendryk_verdict(sheet: *const u8, sheet_len: usize, c
     let out = std::slice::from_raw_parts_mut(buffer, buffer_len);
     let before = out.to_vec();
     let answer = verdict(s, cut, budget, out);
-    let rungs = (answer % 1000) as usize;
+    if answer >= 1000 {
+        write(s, &before, out, answer);
+    }
     match fault() {
         "an invented count" if answer >= 1000 => answer + 1,
-        "the first rung copied" if answer >= 1000 && rungs > 1 => {
-            out.copy_within(32..72, 72);
-            answer
-        }
         "always out of reach" if answer / 1000 == 1 => answer + 1000,
         "always reached" if answer / 1000 == 2 => answer - 1000,
         "stopped with none made" if answer / 1000 == 3 => 3000,
         "nothing written" => {
             out.copy_from_slice(&before);
-            answer
-        }
-        "a later byte changed" if answer >= 1000 && out.len() > 32 + 40 * rungs => {
-            out[32 + 40 * rungs] ^= 1;
-            answer
-        }
-        "two words exchanged" if answer >= 1000 => {
-            for i in 8..16 {
-                out.swap(i, i + 8);
-            }
-            answer
-        }
-        "names by their own numbers" if answer >= 1000 => {
-            for i in (0..number(s, 4)).filter(|&i| is_atom(s, i) && atom(s, i) < 256) {
-                out[usize::from(i / 8)] |= 1 << (i % 8);
-            }
             answer
         }
         "every sheet refused" => {

@@ -1,0 +1,93 @@
+// What document 02, E5, says of a used set and a remainder, checked of a sheet on which sums can't be tried one by one: by the reading's terms where one
+// sum is meant, by ranks where every sum is. It shares no code with the library.
+
+use super::reading::{add, heads, members, read, standard, standard_set, start, Set, Sheet, Term};
+use super::sheets::FRONT;
+use std::collections::BTreeSet;
+use std::rc::Rc;
+
+type Bits = [u128; 2];
+
+fn bits<'a>(set: impl IntoIterator<Item = &'a usize>) -> Bits {
+    let mut b = [0; 2];
+    set.into_iter().for_each(|e| b[e / 128] |= 1 << (e % 128));
+    b
+}
+
+fn lowest(b: &Bits) -> Option<u32> {
+    (0..2).find(|&w| b[w] != 0).map(|w| 128 * w as u32 + b[w].trailing_zeros())
+}
+
+// How many of these sets are left when each that is a sum of those before it is left out. Rows are taken off by their lowest members.
+fn rank(sets: &[Bits]) -> usize {
+    let mut rows: Vec<Option<Bits>> = vec![None; 256];
+    for set in sets {
+        let mut rest = *set;
+        while let Some(low) = lowest(&rest) {
+            match rows[low as usize] {
+                Some(row) => rest = [rest[0] ^ row[0], rest[1] ^ row[1]],
+                None => {
+                    rows[low as usize] = Some(rest);
+                    break;
+                }
+            }
+        }
+    }
+    rows.iter().flatten().count()
+}
+
+// A sheet on which sums can't be tried one by one, with each entry's set of standard entries.
+pub struct Larger {
+    sheet: Sheet,
+    heads: Vec<usize>,
+    sets: Vec<Set>,
+}
+
+impl Larger {
+    pub fn new(s: &[u8]) -> Larger {
+        let sheet = read(s);
+        let heads = heads(&sheet);
+        let standard = standard(&sheet, &heads);
+        let sets = sheet.terms.iter().map(|t| standard_set(&standard, t)).collect();
+        Larger { heads, sets, sheet }
+    }
+
+    // The gained heads in their order: the start, then each rung's head.
+    fn gained(&self, cut: usize, rungs: &[u8], made: usize) -> Vec<usize> {
+        let climbed = rungs.chunks_exact(40).take(made).map(|rung| usize::from(u16::from_be_bytes([rung[0], rung[1]])));
+        start(&self.sheet, cut).into_iter().map(|e| self.heads[e]).chain(climbed).collect()
+    }
+
+    // Is this the highest-numbered entry in some sum of gained terms? Then of the terms' entries above it fewer sets are left than with it.
+    fn highest(&self, gained: &[usize], e: usize) -> bool {
+        let from = |least: usize| rank(&gained.iter().map(|&g| bits(self.sets[g].range(least..))).collect::<Vec<Bits>>());
+        from(e) > from(e + 1)
+    }
+
+    // Was this, when gained, no sum of those gained earlier?
+    fn drawn(&self, gained: &[usize], e: usize) -> bool {
+        let sets: Vec<Bits> = gained.iter().map(|&g| bits(&self.sets[g])).collect();
+        gained.iter().position(|&g| g == e).is_some_and(|k| rank(&sets[..=k]) > rank(&sets[..k]))
+    }
+
+    // The request's sentences: used terms and remainder sum to the goal, the remainder holds standard entries and none that is the highest, and the
+    // used set draws on the same gained terms as a sum rung.
+    fn missing_part(&self, gained: &[usize], used: &Set, remainder: &Set) -> bool {
+        let sum = used.iter().chain(remainder).fold(Rc::new(BTreeSet::new()), |sum: Term, &e| add(&sum, &self.sheet.terms[e]));
+        sum == self.sheet.terms[self.sheet.goal]
+            && remainder.iter().all(|&e| self.heads[e] == e && matches!(self.sheet.kinds[e], 1..=3) && !self.highest(gained, e))
+            && used.iter().all(|&e| self.drawn(gained, e))
+    }
+
+    // Are a call's three sets those of its rungs and its verdict?
+    pub fn holds(&self, cut: usize, answer: u32, buffer: &[u8]) -> bool {
+        let gained = self.gained(cut, &buffer[FRONT..], answer as usize % 1000);
+        let [known, used, remainder] = [0..32, 32..64, 64..FRONT].map(|place| members(&buffer[place]));
+        gained.iter().chain(&used).chain(&remainder).all(|&e| e < self.heads.len())
+            && known == gained.iter().copied().collect()
+            && match answer / 1000 {
+                2 => !remainder.is_empty() && self.missing_part(&gained, &used, &remainder),
+                _ => used.is_empty() && remainder.is_empty(),
+            }
+    }
+}
