@@ -1,17 +1,23 @@
-// The refusals of sheets, on the built library: each row of the grounding table with its neighbours on both sides, several faults at
-// once to show the order, and many damaged sheets against a second reading of document 01's table.
+// The refusals, on the built library: each row of the grounding table with its neighbours on both sides, several faults at once to show the
+// order, and many damaged sheets against a second reading of document 01's table. A refused verdict keeps every byte of the buffer and around it.
 
 #[allow(dead_code)] // each test uses a part
 mod sheets;
-use sheets::{damage, random_entries, refusal, sheet, Entry, Random};
+use sheets::{damage, random_entries, refusal, sheet, Entry, Random, FRONT};
 
 extern "C" {
     fn zuwendryk_validate(sheet: *const u8, len: usize) -> u32;
+    fn zuwendryk_verdict(sheet: *const u8, sheet_len: usize, cut: u32, budget: u32, buffer: *mut u8, buffer_len: usize) -> u32;
 }
 
 fn validate(sheet: &[u8]) -> u32 {
     // A slice's pointer is never null, and the library reads no further than its length.
     unsafe { zuwendryk_validate(sheet.as_ptr(), sheet.len()) }
+}
+
+fn verdict(s: &[u8], cut: u32, budget: u32, buffer: &mut [u8]) -> u32 {
+    // Both areas are slices, so neither pointer is null and they don't overlap.
+    unsafe { zuwendryk_verdict(s.as_ptr(), s.len(), cut, budget, buffer.as_mut_ptr(), buffer.len()) }
 }
 
 struct Count {
@@ -20,6 +26,7 @@ struct Count {
 }
 
 impl Count {
+    // A sheet's refusal, or 0: of the sheet alone, of a verdict, and of a verdict with faults in all that is checked later.
     fn check(&mut self, what: &str, s: &[u8], want: u32) {
         let got = validate(s);
         if got == want && refusal(s) == want {
@@ -27,6 +34,22 @@ impl Count {
         } else {
             self.failed += 1;
             println!("{what}: library {got}, reading {}, wanted {want}", refusal(s));
+        }
+        self.call(what, s, 0, 0, FRONT, want);
+        self.call(what, s, u32::MAX, u32::MAX, 0, if want == 0 { 8 } else { want });
+    }
+
+    // A verdict's refusal, or 0 for any of the three verdicts. A refusal keeps every byte, a verdict those around the buffer.
+    fn call(&mut self, what: &str, s: &[u8], cut: u32, budget: u32, length: usize, want: u32) {
+        let pattern = |i: usize| (i * 37 + 11) as u8;
+        let mut area: Vec<u8> = (0..length + 32).map(pattern).collect();
+        let got = verdict(s, cut, budget, &mut area[16..16 + length]);
+        let kept = (0..length + 32).all(|i| area[i] == pattern(i) || want == 0 && (16..16 + length).contains(&i));
+        if kept && (got == want || want == 0 && (1000..4000).contains(&got)) {
+            self.passed += 1;
+        } else {
+            self.failed += 1;
+            println!("{what}: verdict {got} at cut {cut}, budget {budget} and {length} bytes, wanted {want}, bytes kept: {kept}");
         }
     }
 }
@@ -132,6 +155,45 @@ fn edges(c: &mut Count) {
     c.check("6 before 7", &sheet(&[Zero, Pair(1, 1)], &[9], 0), 6);
 }
 
+// Rows 8 to 10, of sheet A, which is out of reach at cut 2, and stopped or reached at cut 3.
+fn call_edges(c: &mut Count) {
+    use Entry::*;
+    let entries = [Atom(1007), Atom(1009), Sum(vec![0, 1]), Atom(1012), Seal(3, 0)];
+    let a = sheet(&entries, &[2, 4, 1], 3);
+    let room = |budget: usize| FRONT + 40 * budget;
+
+    // row 8
+    c.call("cut h", &a, 3, 0, room(0), 0);
+    for cut in [4, 256, 257, 65535, 65536, 65536 + 3, u32::MAX] {
+        c.call("cut over h", &a, cut, 0, room(0), 8);
+    }
+    c.call("cut 0, nothing heard", &sheet(&entries, &[], 3), 0, 0, room(0), 0);
+    c.call("cut 1, nothing heard", &sheet(&entries, &[], 3), 1, 0, room(0), 8);
+
+    // row 9
+    c.call("budget 256", &a, 3, 256, room(256), 0);
+    for budget in [257, 512, 65535, 65536, 65536 + 256, u32::MAX] {
+        c.call("budget over 256", &a, 3, budget, room(1000), 9);
+    }
+
+    // row 10: the length, one byte less, what was enough before request E5, one byte less, nothing
+    for budget in 0..=256 {
+        let (enough, before) = (room(budget), 32 + 40 * budget);
+        for cut in [2, 3] {
+            c.call("enough space", &a, cut, budget as u32, enough, 0);
+            for length in [enough - 1, before, before - 1, 0] {
+                c.call("no space", &a, cut, budget as u32, length, 10);
+            }
+        }
+    }
+
+    // the order
+    c.call("7 before 8", &sheet(&entries, &[5], 3), 2, 0, room(0), 7);
+    c.call("8 before 9", &a, 4, 257, room(257), 8);
+    c.call("8 before 10", &a, 4, 0, room(0) - 1, 8);
+    c.call("9 before 10", &a, 3, 257, room(0) - 1, 9);
+}
+
 fn damaged(c: &mut Count) {
     let mut r = Random(0x9e3779b97f4a7c15);
     for _ in 0..200_000 {
@@ -145,6 +207,7 @@ fn damaged(c: &mut Count) {
 fn main() {
     let mut c = Count { passed: 0, failed: 0 };
     edges(&mut c);
+    call_edges(&mut c);
     damaged(&mut c);
     println!("refusals: {} passed, {} failed", c.passed, c.failed);
     if c.failed > 0 {
