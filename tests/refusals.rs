@@ -176,12 +176,12 @@ fn call_edges(c: &mut Count) {
         c.call("budget over 256", &a, 3, budget, room(1000), 9);
     }
 
-    // row 10: the length, one byte less, what was enough before request E5, one byte less, nothing
+    // row 10; before request E5, 64 bytes less were enough
     for budget in 0..=256 {
-        let (enough, before) = (room(budget), 32 + 40 * budget);
+        let enough = room(budget);
         for cut in [2, 3] {
             c.call("enough space", &a, cut, budget as u32, enough, 0);
-            for length in [enough - 1, before, before - 1, 0] {
+            for length in [enough - 1, enough - 64, enough - 65, 0] {
                 c.call("no space", &a, cut, budget as u32, length, 10);
             }
         }
