@@ -1,7 +1,7 @@
 // Random good sheets with and without public atoms, and the card of a sheet by the plain verdict. Shared by the tests of the tool.
 
 use super::plain;
-use super::sheets::{random_entries, sheet, Entry, Random};
+use super::sheets::{random_entries, sheet, Entry, Random, FRONT};
 
 // One rung of the output buffer as a line of the card.
 fn rung_line(rung: &[u8]) -> String {
@@ -21,7 +21,7 @@ fn rung_line(rung: &[u8]) -> String {
 pub fn card_of(sheet: &[u8]) -> String {
     let number = |at: usize| u32::from(u16::from_be_bytes([sheet[at], sheet[at + 1]]));
     let mut text = format!("goal {} heard {}\n", number(8), number(6));
-    let mut buffer = vec![0; 32 + 40 * 256];
+    let mut buffer = vec![0; FRONT + 40 * 256];
     for cut in 0..=number(6) {
         let answer = plain::verdict(sheet, cut, 256, &mut buffer);
         if answer >= 2000 {
@@ -30,7 +30,7 @@ pub fn card_of(sheet: &[u8]) -> String {
             continue;
         }
         text += &format!("cut {cut} reached rungs {}\n", answer - 1000);
-        buffer[32..].chunks(40).take(answer as usize - 1000).for_each(|rung| text += &rung_line(rung));
+        buffer[FRONT..].chunks(40).take(answer as usize - 1000).for_each(|rung| text += &rung_line(rung));
         break;
     }
     text

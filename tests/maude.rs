@@ -10,7 +10,7 @@ mod sheets;
 #[allow(dead_code)]
 mod kinds;
 use kinds::Parts;
-use sheets::{random_entries, sheet, Entry, Random};
+use sheets::{random_entries, sheet, Entry, Random, FRONT};
 use std::fs::{create_dir_all, write};
 use std::io::Read;
 use std::process::{Child, Command, Stdio};
@@ -175,7 +175,7 @@ fn ask_thrice(parts: &Parts, form: &str, name: &str) -> Option<Reply> {
 
 // The library's answer and the median of 200 calls in microseconds.
 fn library((entries, heard, goal): &Parts) -> (u32, f64) {
-    let (s, mut out) = (sheet(entries, heard, *goal), vec![0u8; 32 + 40 * 256]);
+    let (s, mut out) = (sheet(entries, heard, *goal), vec![0u8; FRONT + 40 * 256]);
     let mut times = vec![];
     let mut answer = 0;
     for _ in 0..200 {
