@@ -164,21 +164,25 @@ fn heard_sums(t: &mut Tally, r: &mut Random) {
     }
 }
 
-// Atoms, pairs and seals, and sums of them, some of which are heard; the goal is any entry. Mostly it is out of reach, with a used set.
+// Atoms, pairs and seals, and sums of them, some of which are heard; the goal is any entry. Where it is out of reach there is often a used set.
+fn lacking_entries(r: &mut Random) -> kinds::Parts {
+    let (parts, sums) = (3 + r.below(4), 2 + r.below(4));
+    let part = |i: u64, r: &mut Random| match (i, r.below(8)) {
+        (2.., 0) => Entry::Pair(r.below(i) as u16, r.below(i) as u16),
+        (2.., 1) => Entry::Seal(r.below(i) as u16, r.below(i) as u16),
+        (_, 2) => Entry::Atom(r.below(256) as u16),
+        _ => Entry::Atom(1000 + i as u16),
+    };
+    let mut entries: Vec<Entry> = (0..parts).map(|i| part(i, r)).collect();
+    entries.extend((0..sums).map(|_| Entry::Sum((0..2 + r.below(3)).map(|_| r.below(parts) as u16).collect())));
+    let heard = (1..sums).map(|_| (parts + r.below(sums)) as u16).collect();
+    (entries, heard, r.below(parts + sums) as u16)
+}
+
 fn lacking_sums(t: &mut Tally, r: &mut Random) {
     for _ in 0..2000 {
-        let (parts, sums) = (3 + r.below(4), 2 + r.below(4));
-        let part = |i: u64, r: &mut Random| match (i, r.below(8)) {
-            (2.., 0) => Entry::Pair(r.below(i) as u16, r.below(i) as u16),
-            (2.., 1) => Entry::Seal(r.below(i) as u16, r.below(i) as u16),
-            (_, 2) => Entry::Atom(r.below(256) as u16),
-            _ => Entry::Atom(1000 + i as u16),
-        };
-        let mut entries: Vec<Entry> = (0..parts).map(|i| part(i, r)).collect();
-        entries.extend((0..sums).map(|_| Entry::Sum((0..2 + r.below(3)).map(|_| r.below(parts) as u16).collect())));
-        let heard: Vec<u16> = (1..sums).map(|_| (parts + r.below(sums)) as u16).collect();
-        let s = sheet(&entries, &heard, r.below(parts + sums) as u16);
-        t.every_cut(&s, r);
+        let (entries, heard, goal) = lacking_entries(r);
+        t.every_cut(&sheet(&entries, &heard, goal), r);
     }
 }
 
@@ -213,7 +217,7 @@ fn names_as_heard(t: &mut Tally) {
 fn every_pair(t: &mut Tally, r: &mut Random) -> u64 {
     let mut tried = 0;
     while tried < 2000 {
-        let (entries, heard, goal) = random_entries(r, 8);
+        let (entries, heard, goal) = if r.below(2) == 0 { random_entries(r, 8) } else { lacking_entries(r) };
         let sheet = read(&sheet(&entries, &heard, goal));
         let (answer, _, w) = work(&sheet, sheet.heard.len(), 256);
         if !matches!(answer, Answer::OutOfReach) {
@@ -222,10 +226,11 @@ fn every_pair(t: &mut Tally, r: &mut Random) -> u64 {
         tried += 1;
         let highest = highest(&sheet, &w);
         let allowed: Vec<usize> = standard(&sheet, &w.heads).into_values().filter(|e| !highest.contains(e)).collect();
+        let remainders = all_sums(&sheet, &allowed);
         let mut pairs = vec![];
         for (used, sum) in all_sums(&sheet, &w.drawn) {
-            let fits = |(_, rest): &(Set, Term)| add(&sum, rest) == sheet.terms[sheet.goal];
-            pairs.extend(all_sums(&sheet, &allowed).into_iter().filter(fits).map(|(remainder, _)| (used.clone(), remainder)));
+            let fits = |(_, rest): &&(Set, Term)| add(&sum, rest) == sheet.terms[sheet.goal];
+            pairs.extend(remainders.iter().filter(fits).map(|(remainder, _)| (used.clone(), remainder.clone())));
         }
         if pairs != [missing_part(&sheet, &w)] {
             t.fail(&format!("{entries:?} heard {heard:?} goal {goal}: {pairs:?}"));

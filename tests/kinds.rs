@@ -97,14 +97,16 @@ pub fn drawn(n: usize, seed: u64) -> Parts {
 // The same, with names on the hull label in the places of some atoms.
 pub fn labelled(n: usize, seed: u64) -> Parts {
     let (mut entries, heard, goal) = drawn(n, seed);
-    for i in (0..n).step_by(3).filter(|i| matches!(entries[*i], Entry::Atom(_))).collect::<Vec<usize>>() {
-        entries[i] = Entry::Atom(i as u16 % 16);
+    for i in (0..n).step_by(3) {
+        if let Entry::Atom(a) = &mut entries[i] {
+            *a = i as u16 % 16;
+        }
     }
     (entries, heard, goal)
 }
 
 // Half atoms, some of them on the hull label, and half sums of a few of them, of which some are heard. The goal is any entry: mostly it is out of
-// reach, and what is gained helps in part.
+// reach, often with a used set.
 pub fn lacking(n: usize, seed: u64) -> Parts {
     let mut r = Random((n as u64) << 32 | seed << 16 | 0x5eed);
     let (half, all) = (n as u64 / 2, n as u64);
