@@ -45,7 +45,7 @@ fn alike(answer: u32, out: &[u8], earlier: &[u8]) -> bool {
 }
 
 impl Tally {
-    // One call of each, with the same bytes behind its front, and as many as needed: all but one, or all and some more.
+    // One call of each, with the same bytes behind its front. A short buffer lacks the last of them.
     fn call(&mut self, s: &[u8], cut: u32, budget: u32, behind: usize, short: bool) {
         let pattern = |front: usize| (0..front).map(|i| (i * 91 + 5) as u8).chain((0..behind).map(|i| (i * 37 + 11) as u8));
         let before = [FRONT, EARLIER_FRONT].map(|front| pattern(front).take(front + behind - usize::from(short)).collect::<Vec<u8>>());
@@ -123,6 +123,7 @@ fn row(line: &str) -> Option<Row> {
 
 fn run(bench: &str) -> Vec<Row> {
     let output = Command::new(bench).output().expect("the benchmark runs");
+    assert!(output.status.success(), "the benchmark fails: {bench}");
     String::from_utf8(output.stdout).expect("the benchmark prints text").lines().filter_map(row).collect()
 }
 
