@@ -100,24 +100,6 @@ module _ (e : ℕ → Entry) (n : ℕ) (down : Downward e n) {es : List ℕ} {k 
       }
 
   module _ (i : ℕ) (low : i < n) where
-    -- the sum test finds what is missing
-    pub missing-found : Missing e n es i (reduce (k .rows) (setAt e i) .used) (reduce (k .rows) (setAt e i) .remainder)
-    missing-found =
-        record {
-          total = sum-test-total e n down l i low;
-          drawn = λ j m. drawn-independent e n down es (l .below) j .1 (used-independent l (setAt e i) j m);
-          standards = subst (StandardSet e n) (sym (sum-move (xorOver (setAt e) n used) remainder (setAt e i) (reduce-sum l (setAt e i))))
-              (sum-standard e n down (xorOver (setAt e) n used) (setAt e i) (over-standard e n down used) (set-standard e n down i low));
-          bare = λ j m w.
-              true≢false (sym m ∙ ap (member remainder) (sym (leads-leading w)) ∙ remainder-no-leading l (setAt e i) (w .set) (leads-span w) (leads-some w));
-        }
-      where
-        used : ℕ
-        used = reduce (k .rows) (setAt e i) .used
-
-        remainder : ℕ
-        remainder = reduce (k .rows) (setAt e i) .remainder
-
     -- whatever is missing is what the sum test finds
     module _ {u r : ℕ} (m : Missing e n es i u r) where
       free : (j : ℕ) → member u j ≡ true → Independent (setAt e) es j
@@ -159,6 +141,24 @@ module _ (e : ℕ → Entry) (n : ℕ) (down : Downward e n) {es : List ℕ} {k 
               code-sum (sumOfSet (termAt e) n u) (sumOfSet (termAt e) n r)
               ∙ ap (bitXor (code (sumOfSet (termAt e) n u))) (code-sumOfSet (termAt e) n r ∙ ap (xorOver (codeAt e) n) z ∙ xorOver-empty (codeAt e) n)
               ∙ xor-zero-r (code (sumOfSet (termAt e) n u))
+
+    -- the sum test finds what is missing
+    pub missing-found : Missing e n es i (reduce (k .rows) (setAt e i) .used) (reduce (k .rows) (setAt e i) .remainder)
+    missing-found =
+        record {
+          total = sum-test-total e n down l i low;
+          drawn = λ j m. drawn-independent e n down es (l .below) j .1 (used-independent l (setAt e i) j m);
+          standards = subst (StandardSet e n) (sym (sum-move (xorOver (setAt e) n used) remainder (setAt e i) (reduce-sum l (setAt e i))))
+              (sum-standard e n down (xorOver (setAt e) n used) (setAt e i) (over-standard e n down used) (set-standard e n down i low));
+          bare = λ j m w.
+              true≢false (sym m ∙ ap (member remainder) (sym (leads-leading w)) ∙ remainder-no-leading l (setAt e i) (w .set) (leads-span w) (leads-some w));
+        }
+      where
+        used : ℕ
+        used = reduce (k .rows) (setAt e i) .used
+
+        remainder : ℕ
+        remainder = reduce (k .rows) (setAt e i) .remainder
 
 -- "which makes it unique": for any heads known, and any entry, there is exactly one such pair of sets
 module _ (e : ℕ → Entry) (n : ℕ) (down : Downward e n) (es : List ℕ) (hs : Heads e n es) (i : ℕ) (low : i < n) where
