@@ -20,6 +20,8 @@ mod graph;
 mod heads;
 #[path = "sheet/judge.rs"]
 mod judge;
+#[path = "sheet/lack.rs"]
+mod lack;
 #[path = "sheet/layout.rs"]
 mod layout;
 #[path = "sheet/model.rs"]

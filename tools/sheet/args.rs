@@ -28,12 +28,12 @@ pub enum Command {
 }
 
 // The version of the tool and of the library, as the C header has it.
-const VERSION: &str = "sheet 2.0.0\n";
+const VERSION: &str = "sheet 3.0.0\n";
 
 const HELP: &str = "\
 sheet - sheets as text, verdicts in names, and pictures of their ladders
 
-usage: sheet judge [SHEET] [--cut C] [-o FILE]            verdict and steps, by name
+usage: sheet judge [SHEET] [--cut C] [-o FILE]            verdict, and steps or what is missing, by name
        sheet assemble    [TEXT] [-o FILE]                 text notation to sheet bytes
        sheet disassemble [SHEET] [-o FILE]                sheet bytes to text notation
        sheet draw [--svg | --dot] [--needed] SHEET [CARD] [-o FILE]    picture of the ladder
@@ -57,6 +57,14 @@ reached, and the steps in order:
     MESSAGE open SEAL with KEY      PAIR join LEFT, RIGHT
     SEAL seal MESSAGE under KEY     TERM sum of TERM, TERM      TERM sum of nothing
     NAME is the same term as NAME
+
+Where the goal is out of reach, what the listener lacks stands in place of the steps: one term, or the sum of several; and the known
+terms with which it sums to the goal, if there are any:
+
+    missing: TERM                   missing: the sum of TERM, TERM
+    GOAL is the sum of what is missing and TERM, TERM
+
+What is missing is told by the lowest-numbered terms that will do. So list pads and masks above what is built with them.
 
     --cut C    only the first C heard messages
 
@@ -94,6 +102,8 @@ usage: sheet draw [--svg | --dot] [--needed] SHEET [CARD] [-o FILE]
 
 Draws the ladder: a box for each rung, and for each atom on the hull label and each heard message that is used; lines from a rung's
 sources; the goal in gold. Boxes of the hull label have square corners.
+Where the goal is out of reach: used terms, missing ones and the goal that they sum to. If the goal itself is missing, or with a CARD,
+which says nothing of what is missing: all that was heard, a wall, and the goal.
 SHEET is text notation (names become labels) or sheet bytes. CARD is what zuwendryk prints for it; without it the library is
 asked. One of them may be -. A long ladder is drawn in rows; a small box stands for a term of an earlier part.
 

@@ -59,7 +59,9 @@ pub fn tag(node: &Node) -> String {
         Kind::Heard(places) => format!("heard {}", places.iter().map(usize::to_string).collect::<Vec<_>>().join(", ")),
         // As the card's line begins, with the rung's place before it.
         Kind::Rung(number, rule) => format!("step {number} · rung {} {}", node.entry, rule.words()),
+        Kind::Gained => "gained".to_string(),
         Kind::Again(place) => format!("{place}, earlier"),
+        Kind::Missing => "missing".to_string(),
         Kind::Missed => "not gained".to_string(),
     }
 }
@@ -97,13 +99,15 @@ pub fn size(node: &Node) -> (f64, f64) {
     (widest + 2.0 * MARGIN, 48.0 + 15.0 * lines.len() as f64)
 }
 
-fn class(node: &Node) -> &'static str {
+pub fn class(node: &Node) -> &'static str {
     match node.kind {
         Kind::Public => "public",
         Kind::Heard(_) => "heard",
         Kind::Rung(..) => "rung",
+        Kind::Gained => "gained",
         Kind::Again(_) => "again",
-        Kind::Missed => "missed",
+        Kind::Missing if !node.goal => "missing",
+        Kind::Missing | Kind::Missed => "missed",
     }
 }
 
@@ -111,8 +115,8 @@ fn colour(node: &Node) -> &'static str {
     match node.kind {
         Kind::Public => "public-ink",
         Kind::Heard(_) => "heard-ink",
-        Kind::Again(_) => "again-ink",
-        Kind::Missed => "missed-ink",
+        Kind::Gained | Kind::Again(_) => "again-ink",
+        Kind::Missing | Kind::Missed => "missed-ink",
         Kind::Rung(_, Rule::Left | Rule::Right) => "split-ink",
         Kind::Rung(_, Rule::Open) => "open-ink",
         Kind::Rung(_, Rule::Join) => "join-ink",

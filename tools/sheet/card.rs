@@ -41,10 +41,18 @@ pub struct Rung {
     pub sources: Vec<usize>,
 }
 
+// What is missing of a goal that is out of reach. The used terms are known; they and the missing ones sum to the goal.
+#[derive(Clone, Debug, Default, PartialEq)]
+pub struct Lack {
+    pub used: Vec<usize>,
+    pub missing: Vec<usize>,
+}
+
 #[derive(Clone, Debug, PartialEq)]
 pub enum Card {
     Reached { cut: usize, rungs: Vec<Rung> },
-    OutOfReach { known: usize },
+    // A printed card says nothing of what is missing.
+    OutOfReach { known: usize, lack: Option<Lack> },
 }
 
 // The number at a position of the line.
@@ -257,7 +265,7 @@ pub fn parse(bytes: &[u8], sheet: &Sheet, heads: &Heads) -> Result<Card, Fault> 
         known = out_of_reach(&line, &replay, known)?;
     }
     lines.finish()?;
-    whole(text, end).map(|()| Card::OutOfReach { known })
+    whole(text, end).map(|()| Card::OutOfReach { known, lack: None })
 }
 
 // The last line has its end.

@@ -22,7 +22,8 @@ fn node_line(number: usize, node: &Node) -> String {
     let flag = if node.goal { " (goal)" } else { "" };
     let label = quoted(&format!("{}{flag}\n{}\n{}{same}", tag(node), node.label, node.term));
     let look = match (&node.kind, node.goal) {
-        (Kind::Missed, _) => "style=\"filled,rounded,dashed\", fillcolor=\"#fdecea\", color=\"#c0392b\", penwidth=2",
+        (Kind::Missed, _) | (Kind::Missing, true) => "style=\"filled,rounded,dashed\", fillcolor=\"#fdecea\", color=\"#c0392b\", penwidth=2",
+        (Kind::Missing, _) => "style=\"filled,rounded,dashed\", fillcolor=\"#ffffff\", color=\"#c0392b\"",
         // Public atoms have square corners.
         (Kind::Public, true) => "style=filled, fillcolor=\"#fff2c2\", color=\"#c98a00\", penwidth=2",
         (Kind::Public, _) => "style=filled, fillcolor=\"#e4e8ec\", color=\"#5f6d7d\"",
@@ -39,14 +40,19 @@ pub fn dot(graph: &Graph) -> String {
     let mut out = format!("digraph ladder {{\n  rankdir=LR;\n  label={};\n  labelloc=t;\n  bgcolor=\"#fbfaf6\";\n", quoted(&caption));
     out.push_str("  node [shape=box, fontname=\"DejaVu Sans Mono\", fontsize=11];\n  edge [color=\"#56627a\"];\n");
     for (i, node) in graph.nodes.iter().enumerate() {
-        // Without a ladder nothing is pale: public atoms and heard messages are all there is.
+        // Without a ladder nothing is pale.
         let shown = Node { needed: node.needed || !graph.reached, ..node.clone() };
         out.push_str(&node_line(i, &shown));
     }
     for edge in &graph.edges {
-        let key = if edge.key { "style=dashed, " } else { "" };
-        let colour = if edge.needed { "#56627a" } else { "#c6cbd5" };
-        out.push_str(&format!("  n{} -> n{} [{key}color=\"{colour}\"];\n", edge.from, edge.to));
+        let missing = graph.nodes[edge.from].kind == Kind::Missing;
+        let dashed = if edge.key || missing { "style=dashed, " } else { "" };
+        let colour = match edge.needed {
+            _ if missing => "#c0392b",
+            true => "#56627a",
+            false => "#c6cbd5",
+        };
+        out.push_str(&format!("  n{} -> n{} [{dashed}color=\"{colour}\"];\n", edge.from, edge.to));
     }
     out.push_str("}\n");
     out

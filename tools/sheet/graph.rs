@@ -1,10 +1,10 @@
 // The ladder as a graph: one node for each public atom and each heard message that is used and for each rung, one edge for each source
-// of a rung.
+// of a rung. Where the goal is out of reach, the used and missing terms are the sources of the goal.
 
-use super::card::{Card, Rule, Rung};
+use super::card::{Card, Lack, Rule, Rung};
 use super::heads::Heads;
 use super::model::{Entry, Sheet};
-use super::notes::{counted, left_out, notes, undrawn};
+use super::notes::{counted, left_out, missing_notes, notes, undrawn};
 use super::short::{columns, cut};
 
 #[derive(Clone, Debug, PartialEq)]
@@ -15,9 +15,13 @@ pub enum Kind {
     Heard(Vec<usize>),
     // The rung's place in the ladder, from 1.
     Rung(usize, Rule),
+    // A term that was gained by rungs that aren't drawn.
+    Gained,
     // A term that stands in an earlier part, and its tag there.
     Again(String),
-    // A goal that isn't gained.
+    // A missing term; the goal, where it is missing itself.
+    Missing,
+    // A goal that isn't gained, and not said to be missing.
     Missed,
 }
 
@@ -47,7 +51,7 @@ pub struct Edge {
 }
 
 // Public atoms come first, in the order of their entries, then heard messages in the order heard, then the rungs in theirs. Edges are in
-// the order of the rungs.
+// the order of the rungs. Where the goal is out of reach, other used terms, missing ones and the goal stand in place of the rungs.
 #[derive(Clone, Debug, Default)]
 pub struct Graph {
     pub nodes: Vec<Node>,
@@ -207,22 +211,54 @@ fn reached(mut maker: Maker, cut: usize, rungs: &[Rung]) -> Graph {
     Graph { nodes, edges: list, title, heading, notes, reached: true }
 }
 
-fn missed(mut maker: Maker, known: usize) -> Graph {
-    let (sheet, heads) = (maker.sheet, maker.heads);
+// All that is public or was heard, and the goal.
+fn apart(mut maker: Maker, goal: Kind) -> Graph {
+    let sheet = maker.sheet;
     maker.public(|_| true);
     maker.hear(sheet.heard.len(), |_| true);
+    maker.node(goal, sheet.goal);
+    Graph { nodes: maker.nodes, ..Graph::default() }
+}
+
+// The sum that would gain the goal, drawn as a rung: used terms, missing ones, and the goal.
+fn summed(mut maker: Maker, lack: &Lack) -> Graph {
+    let (sheet, heads) = (maker.sheet, maker.heads);
+    let all = sheet.heard.len();
+    let used = |head: usize| lack.used.contains(&head);
+    maker.public(used);
+    maker.hear(all, used);
+    let gained: Vec<usize> = lack.used.iter().copied().filter(|head| maker.node_of[*head].is_none()).collect();
+    gained.into_iter().for_each(|head| maker.node(Kind::Gained, head));
+    lack.missing.iter().for_each(|head| maker.node(Kind::Missing, *head));
     maker.node(Kind::Missed, sheet.goal);
+    let sources = lack.used.iter().chain(&lack.missing).copied().collect();
+    let rung = Rung { head: heads.head[sheet.goal], rule: Rule::Sum, sources };
+    maker.name(&rung);
+    let mut list = edges(rung.rule, &rung.sources, maker.nodes.len() - 1, &maker.node_of);
+    let mut nodes = maker.nodes;
+    mark(&mut nodes, &mut list);
+    let notes = missing_notes(lack.missing.len(), &undrawn(sheet, heads, all, used));
+    Graph { nodes, edges: list, notes, ..Graph::default() }
+}
+
+fn missed(maker: Maker, known: usize, lack: Option<&Lack>) -> Graph {
+    let (sheet, heads) = (maker.sheet, maker.heads);
     let heard = counted(sheet.heard.len(), "heard message", "heard messages");
     let (title, heading) = titles(sheet, "out of reach", &format!("after {heard}"));
     let terms = counted(heads.count(), "different term", "different terms");
-    let notes = vec![format!("Known: {known} of the sheet's {terms}.")];
-    Graph { nodes: maker.nodes, title, heading, notes, ..Graph::default() }
+    let graph = match lack {
+        None => apart(maker, Kind::Missed),
+        Some(lack) if lack.missing == [heads.head[sheet.goal]] => apart(maker, Kind::Missing),
+        Some(lack) => summed(maker, lack),
+    };
+    let notes = [vec![format!("Known: {known} of the sheet's {terms}.")], graph.notes].concat();
+    Graph { title, heading, notes, ..graph }
 }
 
 pub fn graph(sheet: &Sheet, heads: &Heads, card: &Card) -> Graph {
     let maker = Maker { sheet, heads, nodes: Vec::new(), node_of: vec![None; sheet.entries.len()] };
     match card {
         Card::Reached { cut, rungs } => reached(maker, *cut, rungs),
-        Card::OutOfReach { known } => missed(maker, *known),
+        Card::OutOfReach { known, lack } => missed(maker, *known, lack.as_ref()),
     }
 }

@@ -1,8 +1,8 @@
-// A verdict in names: the first line says it in plain words, then the public atoms if there are any, a line a cut, the rungs, and which
-// names are one term. All of it comes from the library's call.
+// A verdict in names: the first line says it in plain words, then the public atoms if there are any, a line a cut, the rungs or what is
+// missing, and which names are one term. All of it comes from the library's call.
 
 use super::bytes::{encode, refusal_word};
-use super::card::{Rule, Rung};
+use super::card::{Lack, Rule, Rung};
 use super::model::{Sheet, ON_HULL_LABEL};
 use super::notes::{counted, public_atoms};
 use super::verdict::{gained_at_start, head_of_first, verdict, verdicts, Verdict};
@@ -68,7 +68,7 @@ fn cut_line(sheet: &Sheet, cut: usize, verdict: &Verdict) -> String {
     };
     match verdict {
         Verdict::Reached(rungs) => format!("cut {cut} {place}: reached, {}\n", counted(rungs.len(), "step", "steps")),
-        Verdict::OutOfReach { known } => format!("cut {cut} {place}: out of reach, {known} known\n"),
+        Verdict::OutOfReach { known, .. } => format!("cut {cut} {place}: out of reach, {known} known\n"),
     }
 }
 
@@ -87,17 +87,36 @@ fn rung_line(sheet: &Sheet, rung: &Rung) -> String {
     format!("{} {words}{space}{}\n", sheet.label(rung.head), names.join(between))
 }
 
+// What is missing of the goal, and the known terms that it then is a sum with.
+fn lack_lines(sheet: &Sheet, lack: &Lack) -> String {
+    let names = |list: &[usize]| list.iter().map(|entry| sheet.heading(*entry)).collect::<Vec<_>>().join(", ");
+    let sum = if lack.missing.len() > 1 { "the sum of " } else { "" };
+    let text = format!("missing: {sum}{}\n", names(&lack.missing));
+    if lack.used.is_empty() {
+        return text;
+    }
+    text + &format!("{} is the sum of what is missing and {}\n", sheet.heading(sheet.goal), names(&lack.used))
+}
+
+// The entries that the lines behind the cuts name.
+fn told(sheet: &Sheet, verdict: &Verdict) -> BTreeSet<usize> {
+    match verdict {
+        Verdict::Reached(rungs) => rungs.iter().flat_map(|rung| rung.sources.iter().copied().chain([rung.head])).collect(),
+        Verdict::OutOfReach { lack, .. } => lack.used.iter().chain(&lack.missing).copied().chain([sheet.goal]).collect(),
+    }
+}
+
 // The lowest-numbered entry of the same term, in a sheet without public atoms.
 fn head(asked: &Sheet, entry: usize) -> usize {
     let alone = Sheet { heard: vec![entry], ..asked.clone() };
     head_of_first(&encode(&alone)).unwrap_or(entry)
 }
 
-// Steps and public atoms are known under one name each. A line for each other name of theirs and the goal's: among public atoms, heard
-// messages, the parts of the entries that the steps name, and the goal.
-fn same_lines(sheet: &Sheet, public: &[usize], cut: usize, rungs: &[Rung]) -> String {
+// Steps, used and missing terms and public atoms are known under one name each. A line for each other name of theirs and the goal's: among
+// public atoms, heard messages, the parts of the entries that the lines before name, and the goal.
+fn same_lines(sheet: &Sheet, public: &[usize], cut: usize, verdict: &Verdict) -> String {
     let asked = sheet.without_public();
-    let mut shown: BTreeSet<usize> = rungs.iter().flat_map(|rung| rung.sources.iter().copied().chain([rung.head])).collect();
+    let mut shown = told(sheet, verdict);
     let parts: Vec<usize> = shown.iter().filter_map(|entry| sheet.entries.get(*entry)).flat_map(|entry| entry.parts()).collect();
     shown.insert(head(&asked, sheet.goal));
     shown.extend(public);
@@ -129,14 +148,16 @@ pub fn judge(bytes: &[u8], sheet: &Sheet, cut: Option<u32>) -> Result<Judged, St
     };
     let (first, list) = asked.map_err(|number| refused_cut(number, sheet, cut))?;
     let cut = first + list.len() - 1;
-    let last = list.last().cloned().unwrap_or(Verdict::OutOfReach { known: 0 });
+    let last = list.last().cloned().unwrap_or(Verdict::OutOfReach { known: 0, lack: Lack::default() });
     let public = gained_at_start(bytes);
     let mut text = first_line(sheet, &public, cut, &last) + &public_line(sheet, &public);
     for (i, verdict) in list.iter().enumerate() {
         text += &cut_line(sheet, first + i, verdict);
     }
-    let rungs = if let Verdict::Reached(rungs) = &last { &rungs[..] } else { &[] };
-    rungs.iter().for_each(|rung| text += &rung_line(sheet, rung));
-    text += &same_lines(sheet, &public, cut, rungs);
+    match &last {
+        Verdict::Reached(rungs) => rungs.iter().for_each(|rung| text += &rung_line(sheet, rung)),
+        Verdict::OutOfReach { lack, .. } => text += &lack_lines(sheet, lack),
+    }
+    text += &same_lines(sheet, &public, cut, &last);
     Ok(Judged { text, reached: matches!(last, Verdict::Reached(_)) })
 }

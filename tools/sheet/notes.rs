@@ -1,4 +1,4 @@
-// What a picture leaves to words: dashed lines, pale rungs, and what isn't drawn.
+// What a picture leaves to words: dashed lines, pale rungs, missing terms, and what isn't drawn.
 
 use super::graph::{Edge, Kind, Node};
 use super::heads::Heads;
@@ -22,8 +22,8 @@ fn listed(items: &[String]) -> String {
     }
 }
 
-// How much the picture leaves out: public atoms and heard messages that no rung uses, and messages heard later. A heard message that is
-// a public atom counts as that atom.
+// How much the picture leaves out: public atoms and heard messages that aren't used, and messages heard later. A heard message that is a
+// public atom counts as that atom.
 pub struct Undrawn {
     public: usize,
     heard: usize,
@@ -45,15 +45,30 @@ pub fn notes(nodes: &[Node], edges: &[Edge], undrawn: &Undrawn) -> Vec<String> {
     if spare > 0 {
         notes.push(format!("{PALE}{} that the goal doesn't need.", counted(spare, "rung", "rungs")));
     }
-    if undrawn.public > 0 {
-        notes.push(format!("Not drawn: {} that no rung uses.", public_atoms(undrawn.public)));
-    }
-    if undrawn.heard > 0 {
-        notes.push(format!("Not drawn: {} that no rung uses.", counted(undrawn.heard, "heard message", "heard messages")));
-    }
+    notes.extend(not_drawn(undrawn, "that no rung uses"));
     if undrawn.later > 0 {
         notes.push(format!("Not drawn: {} heard later.", counted(undrawn.later, "message", "messages")));
     }
+    notes
+}
+
+// The public atoms and heard messages that aren't drawn, and why.
+fn not_drawn(undrawn: &Undrawn, why: &str) -> Vec<String> {
+    let mut notes = Vec::new();
+    if undrawn.public > 0 {
+        notes.push(format!("Not drawn: {} {why}.", public_atoms(undrawn.public)));
+    }
+    if undrawn.heard > 0 {
+        notes.push(format!("Not drawn: {} {why}.", counted(undrawn.heard, "heard message", "heard messages")));
+    }
+    notes
+}
+
+// What the missing terms are for, and what isn't in the sum that would gain the goal.
+pub fn missing_notes(missing: usize, undrawn: &Undrawn) -> Vec<String> {
+    let terms = if missing == 1 { "missing term" } else { "sum of the missing terms" };
+    let mut notes = vec![format!("With the {terms} a listener gains the goal.")];
+    notes.extend(not_drawn(undrawn, "outside the sum"));
     notes
 }
 

@@ -1,18 +1,19 @@
 // The picture of a ladder as SVG: each rung a box, public atoms and heard messages before their first use, lines from its sources, the goal
-// in gold. A picture that would be too wide or too tall is drawn in parts, row under row.
+// in gold. A picture that would be too wide or too tall is drawn in parts, row under row. A goal that is out of reach stands apart.
 
-use super::boxes::{draw, escape, size, spoken, Area};
+use super::boxes::{class, draw, escape, size, spoken, Area};
 use super::graph::{Graph, Kind};
+use super::lack::lacking;
 use super::layout::{layout, least_height, ranked, Layout, Link, GAP};
 use super::rows::parts;
 use super::short::{clipped, columns};
 
-const EDGE: f64 = 28.0;
-const HEAD: f64 = 72.0;
+pub const EDGE: f64 = 28.0;
+pub const HEAD: f64 = 72.0;
 const LONGEST_HEADING: usize = 110;
 // A picture of this width is read in a browser without moving it sideways.
-const MOST_WIDTH: f64 = 1280.0;
-const MOST_HEIGHT: f64 = 760.0;
+pub const MOST_WIDTH: f64 = 1280.0;
+pub const MOST_HEIGHT: f64 = 760.0;
 // The space around a part, and over it for its caption.
 const INNER: f64 = 16.0;
 const CAPTION: f64 = 30.0;
@@ -54,6 +55,13 @@ text.sum-ink{fill:#2c6e2f}path.sum-ink{stroke:#4f9f53}
 const PUBLIC_STYLE: &str = "\
 .public rect{fill:#e4e8ec;stroke:#5f6d7d}
 text.public-ink{fill:#3d4a5a}path.public-ink{stroke:#5f6d7d}
+";
+
+// Only in pictures with a missing term beside the goal.
+const MISSING_STYLE: &str = "\
+.missing rect{stroke:#c0392b;stroke-dasharray:4 3}
+.line.lack{stroke:#c0392b;stroke-dasharray:4 3}
+.tip.lack{fill:#c0392b}
 ";
 
 // The left edge and the width of each rank's column, from 0 on.
@@ -108,7 +116,7 @@ fn line(layout: &Layout, link: &Link, port: f64, columns: &[(f64, f64)], boxes: 
 }
 
 // A finished picture: its body inside the frame, with title and notes.
-fn frame(graph: &Graph, body: &str, width: f64, bottom: f64) -> String {
+pub fn frame(graph: &Graph, body: &str, width: f64, bottom: f64) -> String {
     let heading = clipped(&graph.heading, LONGEST_HEADING);
     let widest = graph.notes.iter().map(|note| columns(note) as f64 * 7.4).fold(columns(&heading) as f64 * 11.6, f64::max);
     let width = width.max(widest + 2.0 * EDGE);
@@ -117,8 +125,8 @@ fn frame(graph: &Graph, body: &str, width: f64, bottom: f64) -> String {
     let mut out = String::from("<svg xmlns=\"http://www.w3.org/2000/svg\" role=\"img\" aria-labelledby=\"title\" aria-describedby=\"told\"");
     out.push_str(&format!(" width=\"{width:.0}\" height=\"{height:.0}\" viewBox=\"0 0 {width:.0} {height:.0}\">\n"));
     out.push_str(&format!("<title id=\"title\">{}</title>\n<desc id=\"told\">{}</desc>\n", escape(&graph.title), escape(&told.join("; "))));
-    let more = if graph.nodes.iter().any(|node| node.kind == Kind::Public) { PUBLIC_STYLE } else { "" };
-    out.push_str(&format!("<style>\n{STYLE}{more}</style>\n"));
+    let more = [("public", PUBLIC_STYLE), ("missing", MISSING_STYLE)].into_iter().filter(|(name, _)| graph.nodes.iter().any(|node| class(node) == *name));
+    out.push_str(&format!("<style>\n{STYLE}{}</style>\n", more.map(|(_, style)| style).collect::<String>()));
     out.push_str(&format!("<rect class=\"paper\" x=\"0.5\" y=\"0.5\" width=\"{:.0}\" height=\"{:.0}\" rx=\"10\"/>\n", width - 1.0, height - 1.0));
     out.push_str(&format!("<text class=\"title\" x=\"{EDGE}\" y=\"42\">{}</text>\n{body}", escape(&heading)));
     for (i, note) in graph.notes.iter().enumerate() {
@@ -232,7 +240,7 @@ fn apart(graph: &Graph) -> String {
     let sizes: Vec<(f64, f64)> = graph.nodes.iter().map(size).collect();
     let width = sizes.iter().map(|size| size.0).fold(0.0, f64::max);
     let height = sizes.iter().map(|size| size.1).fold(0.0, f64::max);
-    let starts = graph.nodes.iter().filter(|node| node.kind != Kind::Missed).count();
+    let starts = graph.nodes.iter().filter(|node| !node.goal).count();
     let room = ((MOST_WIDTH - 2.0 * EDGE - width - 98.0) / (width + GAP)).max(1.0) as usize;
     let square = ((starts as f64 * 1.6).sqrt().ceil() as usize).clamp(1, starts.max(1));
     let rows = square.max((starts + room - 1) / room);
@@ -242,9 +250,9 @@ fn apart(graph: &Graph) -> String {
     let middle = (HEAD + bottom) / 2.0;
     let mut body = format!("<path class=\"wall\" d=\"M{wall:.1} {HEAD}V{bottom:.1}\"/>\n");
     for (i, node) in graph.nodes.iter().enumerate() {
-        let (x, y) = match node.kind {
-            Kind::Missed => (wall + 58.0, middle - height / 2.0),
-            _ => (EDGE + (i / rows) as f64 * (width + GAP), HEAD + (i % rows) as f64 * (height + GAP)),
+        let (x, y) = match node.goal {
+            true => (wall + 58.0, middle - height / 2.0),
+            false => (EDGE + (i / rows) as f64 * (width + GAP), HEAD + (i % rows) as f64 * (height + GAP)),
         };
         body.push_str(&draw(node, Area { x, y, width, height }, false));
     }
@@ -258,5 +266,9 @@ fn apart(graph: &Graph) -> String {
 }
 
 pub fn svg(graph: &Graph) -> String {
-    if graph.reached { ladder(graph) } else { apart(graph) }
+    match graph.reached {
+        true => ladder(graph),
+        false if graph.edges.is_empty() => apart(graph),
+        false => lacking(graph),
+    }
 }

@@ -1,8 +1,14 @@
 // The library's verdict call, and its output buffer read. The numbers of the buffer's layout stand in this file alone.
 
-use super::card::{Card, Rule, Rung};
+use super::card::{Card, Lack, Rule, Rung};
 
 const SET_BYTES: usize = 32;
+// The sets that stand before the rungs, in this order.
+const GAINED: usize = 0;
+const USED: usize = 1;
+const REMAINDER: usize = 2;
+// Where the rungs begin.
+const FRONT: usize = 3 * SET_BYTES;
 const RUNG_BYTES: usize = 40;
 // With this budget no sheet's work is stopped.
 const BUDGET: u32 = 256;
@@ -14,12 +20,12 @@ extern "C" {
 #[derive(Clone, Debug, PartialEq)]
 pub enum Verdict {
     Reached(Vec<Rung>),
-    OutOfReach { known: usize },
+    OutOfReach { known: usize, lack: Lack },
 }
 
 // The answer's number, and the buffer behind it.
 fn call(sheet: &[u8], cut: u32, budget: u32) -> (u32, Vec<u8>) {
-    let mut buffer = vec![0; SET_BYTES + RUNG_BYTES * budget as usize];
+    let mut buffer = vec![0; FRONT + RUNG_BYTES * budget as usize];
     // Both areas are slices, so neither pointer is null and they don't overlap.
     let answer = unsafe { zuwendryk_verdict(sheet.as_ptr(), sheet.len(), cut, budget, buffer.as_mut_ptr(), buffer.len()) };
     (answer, buffer)
@@ -28,6 +34,11 @@ fn call(sheet: &[u8], cut: u32, budget: u32) -> (u32, Vec<u8>) {
 // The entries of a set, in rising order.
 fn members(set: &[u8]) -> Vec<usize> {
     (0..8 * set.len()).filter(|e| set[e / 8] >> (e % 8) & 1 == 1).collect()
+}
+
+// The entries of one of the sets before the rungs.
+fn front(buffer: &[u8], set: usize) -> Vec<usize> {
+    members(&buffer[SET_BYTES * set..][..SET_BYTES])
 }
 
 fn rung(bytes: &[u8]) -> Option<Rung> {
@@ -50,10 +61,13 @@ pub fn verdict(sheet: &[u8], cut: u32) -> Result<Verdict, u32> {
     let made = answer as usize % 1000;
     match answer {
         1000..=1256 => {
-            let rungs = buffer[SET_BYTES..].chunks(RUNG_BYTES).take(made).map(rung).collect::<Option<Vec<_>>>();
+            let rungs = buffer[FRONT..].chunks(RUNG_BYTES).take(made).map(rung).collect::<Option<Vec<_>>>();
             rungs.map(Verdict::Reached).ok_or(answer)
         }
-        2000..=2256 => Ok(Verdict::OutOfReach { known: members(&buffer[..SET_BYTES]).len() }),
+        2000..=2256 => {
+            let lack = Lack { used: front(&buffer, USED), missing: front(&buffer, REMAINDER) };
+            Ok(Verdict::OutOfReach { known: front(&buffer, GAINED).len(), lack })
+        }
         _ => Err(answer),
     }
 }
@@ -61,14 +75,14 @@ pub fn verdict(sheet: &[u8], cut: u32) -> Result<Verdict, u32> {
 // What a listener has gained who heard nothing and made no step: the public atoms, each as its head, in rising order.
 pub fn gained_at_start(sheet: &[u8]) -> Vec<usize> {
     let (answer, buffer) = call(sheet, 0, 0);
-    if answer < 1000 { vec![] } else { members(&buffer[..SET_BYTES]) }
+    if answer < 1000 { vec![] } else { front(&buffer, GAINED) }
 }
 
 // The lowest-numbered entry of the same term as the first heard message: what a listener has gained who heard it and made no step. The
 // sheet has no public atom; such an atom would be gained too.
 pub fn head_of_first(sheet: &[u8]) -> Option<usize> {
     let (answer, buffer) = call(sheet, 1, 0);
-    if answer < 1000 { None } else { members(&buffer[..SET_BYTES]).first().copied() }
+    if answer < 1000 { None } else { front(&buffer, GAINED).first().copied() }
 }
 
 // The verdicts at each cut up to the first that is reached, as the program's card has them.
@@ -87,7 +101,7 @@ pub fn verdicts(sheet: &[u8], heard: usize) -> Result<Vec<Verdict>, u32> {
 pub fn card(list: &[Verdict]) -> Card {
     match list.last() {
         Some(Verdict::Reached(rungs)) => Card::Reached { cut: list.len() - 1, rungs: rungs.clone() },
-        Some(Verdict::OutOfReach { known }) => Card::OutOfReach { known: *known },
-        None => Card::OutOfReach { known: 0 },
+        Some(Verdict::OutOfReach { known, lack }) => Card::OutOfReach { known: *known, lack: Some(lack.clone()) },
+        None => Card::OutOfReach { known: 0, lack: None },
     }
 }
