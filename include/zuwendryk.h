@@ -3,10 +3,11 @@
  * A sheet is a numbered table of up to 256 terms: zero, atoms, pairs, terms sealed under a key term, and sums by exclusive or. It also lists
  * the messages that were heard, in order, and names one entry as the goal. The calls here judge whether a listener gains the goal from the
  * names on the hull label and the messages heard before a cut. "Reached" comes with the steps, called rungs. "Out of reach" is proved: no
- * finite row of steps whatever, through terms of any size, gains the goal.
+ * finite row of steps whatever, through terms of any size, gains the goal. It comes with what the listener still lacks.
  *
- * This header is the manual: version, linking, the sheet's bytes, the rules, the answers, the buffer's bytes, stack, what a caller owes and what
- * is proved, then the two calls. examples/build.c makes a sheet and asks for its verdict; examples/verdict.c reads one from a file.
+ * This header is the manual: version, linking, the sheet's bytes, the rules, the answers, the buffer's bytes, what is missing, stack, what a
+ * caller owes and what is proved, then the two calls. examples/build.c makes a sheet and asks for its verdict; examples/verdict.c reads one from
+ * a file.
  */
 #ifndef ZUWENDRYK_H
 #define ZUWENDRYK_H
@@ -19,12 +20,17 @@ extern "C" {
 #endif
 
 /* VERSION. The same stands in zuwendryk.pc and in what `sheet --version` prints. The first number changes when a sheet can get another answer or
- * the buffer another layout: since 2.0.0 atoms 0 to 255 are on the hull label. A sheet that was made for version 1 and uses such numbers for
- * secrets has to be numbered anew. */
-#define ZUWENDRYK_VERSION_MAJOR 2
+ * the buffer another layout:
+ *
+ *     3.0.0   Used set and remainder, 32 bytes each, stand between the gained set and the rungs. A caller that was made for version 2 has to
+ *             lend 64 bytes more and to look for each rung 64 bytes later. If it has both from ZUWENDRYK_BUFFER, it is only compiled anew. A
+ *             buffer that was just long enough before is refused now. Answers, gained set and rungs are as they were.
+ *     2.0.0   Atoms 0 to 255 are on the hull label. A sheet that was made for version 1 and uses such numbers for secrets has to be numbered
+ *             anew. */
+#define ZUWENDRYK_VERSION_MAJOR 3
 #define ZUWENDRYK_VERSION_MINOR 0
 #define ZUWENDRYK_VERSION_PATCH 0
-#define ZUWENDRYK_VERSION "2.0.0"
+#define ZUWENDRYK_VERSION "3.0.0"
 
 /* LINKING
  *
@@ -46,7 +52,7 @@ extern "C" {
  *     verdict.argtypes = [ctypes.c_char_p, ctypes.c_size_t, ctypes.c_uint32, ctypes.c_uint32, ctypes.c_char_p, ctypes.c_size_t]
  *     verdict.restype = ctypes.c_uint32
  *     sheet = open("sheet", "rb").read()
- *     buffer = ctypes.create_string_buffer(32 + 40 * 256)
+ *     buffer = ctypes.create_string_buffer(96 + 40 * 256)
  *     print(verdict(sheet, len(sheet), 3, 256, buffer, len(buffer)))
  */
 
@@ -80,7 +86,10 @@ extern "C" {
  * call hands back. Terms are the same when exclusive or makes them so, also inside pairs and seals: order and grouping of a sum don't
  * matter, a term summed with itself is zero, and zero adds nothing.
  *
- * docs/FORMAT.md goes through a sheet of 55 bytes and its answer, byte by byte. */
+ * A head that is an atom, a pair or a seal is called a standard entry. Every entry's term is the sum of exactly one set of standard entries,
+ * which is empty for zero.
+ *
+ * docs/FORMAT.md goes through a sheet of 55 bytes and two of its answers, byte by byte. */
 #define ZUWENDRYK_LETTERS "SHT1"
 #define ZUWENDRYK_MOST_ENTRIES 256
 #define ZUWENDRYK_MOST_HEARD 256
@@ -148,7 +157,7 @@ extern "C" {
 
 /* Verdicts. */
 #define ZUWENDRYK_REACHED 1000      /* the goal is gained; the buffer holds the rungs that gain it */
-#define ZUWENDRYK_OUT_OF_REACH 2000 /* it isn't, and no rung follows */
+#define ZUWENDRYK_OUT_OF_REACH 2000 /* it isn't, and no rung follows; the buffer says what is missing */
 #define ZUWENDRYK_STOPPED 3000      /* it isn't, the budget is used up, and another rung follows; never with a budget of n or more */
 
 /* THE BUFFER'S BYTES after a call that wasn't refused. Numbers have 2 bytes, the high one first.
@@ -156,15 +165,20 @@ extern "C" {
  *     offset          bytes   content
  *     0               32      the gained set: entry e is the bit of value 1 << e % 8 in byte e / 8. Only heads stand in it, those of names and
  *                             messages too
- *     32 + 40i        40      rung i, counted from 0 in the order made:
+ *     32              32      the used set, in the gained set's form; zero where the verdict isn't out of reach
+ *     64              32      the remainder, in the gained set's form; zero where the verdict isn't out of reach
+ *     96 + 40i        40      rung i, counted from 0 in the order made:
  *       + 0           2         the gained entry
  *       + 2           2         the rule, 1 to 6
  *       + 4           2         the first source, or 65,535
  *       + 6           2         the second source, or 65,535
  *       + 8           32        the set of summed entries, in the gained set's form
- *     32 + 40 * made          the rest keeps its value, whatever the budget */
+ *     96 + 40 * made          the rest keeps its value, whatever the budget */
 #define ZUWENDRYK_SET 32                /* bytes of a set */
-#define ZUWENDRYK_FRONT 32              /* bytes before the first rung */
+#define ZUWENDRYK_GAINED_AT 0           /* where the sets before the rungs begin */
+#define ZUWENDRYK_USED_AT 32
+#define ZUWENDRYK_REMAINDER_AT 64
+#define ZUWENDRYK_FRONT 96              /* bytes before the first rung */
 #define ZUWENDRYK_RUNG 40               /* bytes of a rung */
 #define ZUWENDRYK_RUNG_GAINED 0         /* where in a rung its parts begin */
 #define ZUWENDRYK_RUNG_RULE 2
@@ -172,6 +186,26 @@ extern "C" {
 #define ZUWENDRYK_RUNG_SECOND 6
 #define ZUWENDRYK_RUNG_SET 8
 #define ZUWENDRYK_BUFFER(b) (ZUWENDRYK_FRONT + ZUWENDRYK_RUNG * ZUWENDRYK_SIZE(b)) /* bytes for a budget of b rungs; where rung b begins */
+
+/* WHAT IS MISSING. At out of reach, used set and remainder say what the listener still lacks. The terms of both together sum to the goal's term.
+ *
+ *     used set    gained entries, of those that a sum rung draws on. It may be empty
+ *     remainder   standard entries. It has at least one member, and no member is gained
+ *
+ * The listener lacks the sum of the remainder's terms, taken as one term. If he had it, the goal would be one sum away: the sum of it and the used
+ * terms. So he can't gain it either. With several members it is their sum that counts: he could have it and still lack each of them.
+ *
+ * No member of the remainder is the highest-numbered standard entry in any sum of gained terms. Only one remainder and one used set are so, and
+ * the remainder is written in the lowest-numbered terms that will do. So the order of the entries decides in which terms a planner reads the
+ * answer. List the terms whose loss is feared, as pads and masks, above the terms that are built with them. Let a key be sent summed with a pad,
+ * let nothing else be heard, and let the key be the goal:
+ *
+ *     entries                                      used set    remainder
+ *     0 the pad, 1 the key, 2 the sum of both      2           0, the pad
+ *     0 the key, 1 the pad, 2 the sum of both      none        0, the key itself
+ *
+ * The remainder is about sums alone. Another term may open another way to the goal, as the key of a seal that was heard. To see what the loss
+ * of a term would do, add its entry to the heard messages and ask again. */
 
 /* STACK. The most bytes of stack that a call itself touches, below its caller's own: a verdict's, and those of a call that is refused and of
  * zuwendryk_validate. They include what the dynamic linker takes when it looks up memcpy or memset at the first use. A thread made for a verdict
@@ -188,8 +222,10 @@ extern "C" {
 /* WHAT IS PROVED, by machine, for every sheet, cut, budget and buffer for which the caller gives what it owes: which number comes back; every byte
  * of the buffer afterwards; that the verdict is right; that no memory but the two areas and the stack is touched; and that the call ends. A verdict
  * is right when out of reach comes only where no finite row of steps gains the goal, through terms on the sheet or not, and with a budget of n or
- * more always there; and when the rungs of a reached goal follow from names, messages and each other, gain it, and are at most n. Assumed
- * are the checker, the compiler's back end, and that keys are perfect: a seal shows nothing without its key. */
+ * more always there; and when the rungs of a reached goal follow from names, messages and each other, gain it, and are at most n. Of used set
+ * and remainder at out of reach: that the used entries are of those that a sum rung draws on, and the remainder's members standard entries; that
+ * they sum to the goal's term; that no member of the remainder is the highest-numbered standard entry in a sum of gained terms; and that no other
+ * two sets are so. Assumed are the checker, the compiler's back end, and that keys are perfect: a seal shows nothing without its key. */
 
 /* The verdict on a sheet after the first `cut` heard messages, 0 to h, with at most `budget` rungs, 0 to 256. The answers and the buffer's bytes are
  * said above. A budget of ZUWENDRYK_MOST_RUNGS is enough for every sheet. The time grows with the square of n. */
