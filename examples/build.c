@@ -1,5 +1,5 @@
-/* Makes a sheet in memory from a table of terms, asks for its verdict after each message, and prints it with the rungs by name.
- * Status: 0, or 1 if a table of yours makes no good sheet or the text can't be written. */
+/* Makes a sheet in memory from a table of terms, asks for its verdict after each message, and prints it with the rungs or what is missing, by
+ * name. Status: 0, or 1 if a table of yours makes no good sheet or the text can't be written. */
 #include "zuwendryk.h"
 #include <stdio.h>
 #include <string.h>
@@ -66,15 +66,28 @@ static size_t make_sheet(uint8_t *sheet) {
 
 static unsigned number(const uint8_t *p) { return p[0] * 256u + p[1]; }
 
+/* Prints the names of a set's members. */
+static void print_set(const uint8_t *set) {
+    for (unsigned e = 0; e < ENTRIES; e++)
+        if (set[e / 8] >> (e % 8) & 1) printf(" (%s)", terms[e].name);
+    printf("\n");
+}
+
 /* Prints a rung by the names of its terms. A source that isn't used has no name. */
 static void print_rung(const uint8_t *rung) {
     unsigned first = number(rung + ZUWENDRYK_RUNG_FIRST), second = number(rung + ZUWENDRYK_RUNG_SECOND);
     printf("  %s: %s", terms[number(rung + ZUWENDRYK_RUNG_GAINED)].name, words[number(rung + ZUWENDRYK_RUNG_RULE)]);
     if (first != ZUWENDRYK_NO_SOURCE) printf(" (%s)", terms[first].name);
     if (second != ZUWENDRYK_NO_SOURCE) printf(" (%s)", terms[second].name);
-    for (unsigned e = 0; e < ENTRIES; e++)
-        if (rung[ZUWENDRYK_RUNG_SET + e / 8] >> (e % 8) & 1) printf(" (%s)", terms[e].name);
-    printf("\n");
+    print_set(rung + ZUWENDRYK_RUNG_SET);
+}
+
+/* Prints what the listener lacks: the goal is the sum of the used terms and of the missing ones. */
+static void print_missing(const uint8_t *buffer) {
+    printf("  used:");
+    print_set(buffer + ZUWENDRYK_USED_AT);
+    printf("  missing:");
+    print_set(buffer + ZUWENDRYK_REMAINDER_AT);
 }
 
 /* Prints the verdict after the first `cut` messages. Answers 0 if the call is refused. */
@@ -88,6 +101,7 @@ static int judge(const uint8_t *sheet, size_t len, uint32_t cut) {
     int reached = answer < ZUWENDRYK_OUT_OF_REACH;
     printf("%u heard: the %s is %s\n", (unsigned)cut, terms[GOAL].name, reached ? "reached" : "out of reach");
     for (uint32_t i = 0; reached && i < answer - ZUWENDRYK_REACHED; i++) print_rung(buffer + ZUWENDRYK_BUFFER(i));
+    if (!reached) print_missing(buffer);
     return 1;
 }
 

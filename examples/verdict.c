@@ -1,5 +1,5 @@
-/* Asks for a verdict on the sheet in a file and prints its rungs: verdict SHEET [CUT]. Without a cut all heard messages count.
- * Status: 0 for a verdict, 1 for a refused sheet or a file that can't be read or written, 2 for bad use. */
+/* Asks for a verdict on the sheet in a file and prints its rungs or what is missing: verdict SHEET [CUT]. Without a cut all heard messages
+ * count. Status: 0 for a verdict, 1 for a refused sheet or a file that can't be read or written, 2 for bad use. */
 #include "zuwendryk.h"
 #include <errno.h>
 #include <stdio.h>
@@ -34,21 +34,36 @@ static int read_start(const char *name, uint8_t *bytes, size_t most, size_t *len
     return good;
 }
 
+/* Prints the members of a set. */
+static void print_set(const uint8_t *set) {
+    for (unsigned e = 0; e < ZUWENDRYK_MOST_ENTRIES; e++)
+        if (set[e / 8] >> (e % 8) & 1) printf(" %u", e);
+    printf("\n");
+}
+
 static void print_rung(const uint8_t *rung) {
     unsigned rule = number(rung + ZUWENDRYK_RUNG_RULE);
     printf("rung %u %s", number(rung + ZUWENDRYK_RUNG_GAINED), words[rule]);
     if (rule != ZUWENDRYK_RULE_SUM) printf(" %u", number(rung + ZUWENDRYK_RUNG_FIRST));
     if (number(rung + ZUWENDRYK_RUNG_SECOND) != ZUWENDRYK_NO_SOURCE) printf(" %u", number(rung + ZUWENDRYK_RUNG_SECOND));
-    for (unsigned e = 0; e < ZUWENDRYK_MOST_ENTRIES; e++)
-        if (rung[ZUWENDRYK_RUNG_SET + e / 8] >> (e % 8) & 1) printf(" %u", e);
-    printf("\n");
+    print_set(rung + ZUWENDRYK_RUNG_SET);
+}
+
+/* Prints what the listener lacks: the goal is the sum of the used entries and of the missing ones. */
+static void print_missing(const uint8_t *buffer) {
+    printf("used");
+    print_set(buffer + ZUWENDRYK_USED_AT);
+    printf("missing");
+    print_set(buffer + ZUWENDRYK_REMAINDER_AT);
 }
 
 /* Prints the answer, with the rungs where the goal is reached. With a budget of ZUWENDRYK_MOST_RUNGS no answer is stopped. */
 static void print_answer(uint32_t answer, const uint8_t *buffer) {
     if (answer < ZUWENDRYK_REACHED) printf("refused %u\n", (unsigned)answer);
-    else if (answer >= ZUWENDRYK_OUT_OF_REACH) printf("out of reach\n");
-    else {
+    else if (answer >= ZUWENDRYK_OUT_OF_REACH) {
+        printf("out of reach\n");
+        print_missing(buffer);
+    } else {
         printf("reached\n");
         for (uint32_t i = 0; i < answer - ZUWENDRYK_REACHED; i++) print_rung(buffer + ZUWENDRYK_BUFFER(i));
     }
