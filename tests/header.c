@@ -15,11 +15,16 @@ static void expect(const char *what, size_t found, size_t expected) {
 static void sizes(void) {
     int many = 200000000; /* 40 times this is more than an int holds */
     uint16_t few = 3;
-    expect("the buffer of no rung", ZUWENDRYK_BUFFER(0), 32);
-    expect("the buffer of the most rungs", sizeof buffer, 32 + 40 * 256);
-    expect("a buffer of many rungs", ZUWENDRYK_BUFFER(many), 8000000032u);
-    expect("a buffer of few + 1 rungs", ZUWENDRYK_BUFFER(few + 1), 192);
+    expect("the front", ZUWENDRYK_FRONT, 96);
+    expect("the buffer of no rung", ZUWENDRYK_BUFFER(0), ZUWENDRYK_FRONT);
+    expect("the buffer of the most rungs", sizeof buffer, ZUWENDRYK_FRONT + 10240);
+    expect("a buffer of many rungs", ZUWENDRYK_BUFFER(many), ZUWENDRYK_FRONT + 8000000000u);
+    expect("a buffer of few + 1 rungs", ZUWENDRYK_BUFFER(few + 1), ZUWENDRYK_FRONT + 160);
     expect("the type of a buffer's length", sizeof ZUWENDRYK_BUFFER(few), sizeof(size_t));
+    expect("the gained set", ZUWENDRYK_GAINED_AT, 0);
+    expect("the used set", ZUWENDRYK_USED_AT, ZUWENDRYK_GAINED_AT + ZUWENDRYK_SET);
+    expect("the remainder", ZUWENDRYK_REMAINDER_AT, ZUWENDRYK_USED_AT + ZUWENDRYK_SET);
+    expect("the end of the remainder", ZUWENDRYK_REMAINDER_AT + ZUWENDRYK_SET, ZUWENDRYK_FRONT);
     expect("the set in a rung", ZUWENDRYK_RUNG_SET + ZUWENDRYK_SET, ZUWENDRYK_RUNG);
     expect("where heard messages begin", ZUWENDRYK_HEARD_AT(5), 30);
     expect("where records begin", ZUWENDRYK_RECORDS_AT(5, few), 36);
@@ -27,12 +32,12 @@ static void sizes(void) {
            sizeof sheet);
 }
 
-/* The verdict on a sheet of one atom that nobody heard. */
-static uint32_t alone(unsigned atom) {
+/* The verdict on a sheet of one atom that nobody heard, with no rung and so much of the buffer. */
+static uint32_t alone(unsigned atom, size_t space) {
     uint8_t one[] = {'S', 'H', 'T', '1', 0, 1, 0, 0, 0, 0, 0, 14, 0, 3, ZUWENDRYK_KIND_ATOM, 0, 0};
     one[15] = atom >> 8 & 255u;
     one[16] = atom & 255u;
-    return zuwendryk_verdict(one, sizeof one, 0, 0, buffer, sizeof buffer);
+    return zuwendryk_verdict(one, sizeof one, 0, 0, buffer, space);
 }
 
 static void version(void) {
@@ -45,8 +50,10 @@ int main(void) {
     sizes();
     version();
     expect("the answer to a sheet of zeros", zuwendryk_verdict(sheet, sizeof sheet, 0, 0, buffer, sizeof buffer), ZUWENDRYK_NO_SHEET);
-    expect("the answer to the last name on the hull label", alone(ZUWENDRYK_NAMES - 1), ZUWENDRYK_REACHED);
-    expect("the answer to the first atom that is none", alone(ZUWENDRYK_NAMES), ZUWENDRYK_OUT_OF_REACH);
+    expect("the answer to the last name on the hull label", alone(ZUWENDRYK_NAMES - 1, sizeof buffer), ZUWENDRYK_REACHED);
+    expect("the answer to the first atom that is none", alone(ZUWENDRYK_NAMES, sizeof buffer), ZUWENDRYK_OUT_OF_REACH);
+    expect("the answer with a buffer of the front alone", alone(ZUWENDRYK_NAMES, ZUWENDRYK_FRONT), ZUWENDRYK_OUT_OF_REACH);
+    expect("the answer with one byte less", alone(ZUWENDRYK_NAMES, ZUWENDRYK_FRONT - 1), ZUWENDRYK_NO_SPACE);
     expect("the validity of a sheet of zeros", zuwendryk_validate(sheet, sizeof sheet), ZUWENDRYK_NO_SHEET);
     return failed != 0;
 }

@@ -1,6 +1,6 @@
 // The tool's verdicts in names. Every example is judged both ways, by the program's card and by `sheet judge`, and the two agree once
-// names are numbers again; the same on random sheets by the plain verdict. A card that lies is told apart. The names on the hull label are told,
-// and don't spoil which names are one term.
+// names are numbers again; the same on random sheets by the plain verdict, which also has what is missing. A verdict that lies is told apart.
+// The names on the hull label are told, and don't spoil which names are one term.
 // Arguments: the tool, the program, and the repository's folder.
 
 #[allow(dead_code)] // each test uses a part
@@ -9,7 +9,7 @@ mod plain;
 mod sheets;
 mod tally;
 
-use sheets::{damage, random_entries, refusal, sheet, Entry, Random};
+use sheets::{damage, random_entries, refusal, sheet, Entry, Random, FRONT};
 use std::collections::{BTreeSet, HashMap};
 use std::fs;
 use std::io::Write;
@@ -33,11 +33,14 @@ fn run(program: &Path, words: &[&str], input: &[u8]) -> Run {
     Run { status: done.status.code().unwrap_or(-1), out: text(done.stdout), err: text(done.stderr) }
 }
 
-// What both ways say: a verdict a cut, as the card has it (`known` or the number of rungs), and the rungs as numbers.
-#[derive(Clone, Debug, PartialEq)]
+// What both ways say: a verdict a cut, as the card has it (`known` or the number of rungs), and the rungs as numbers. Of a goal that is out of
+// reach the used entries and the missing ones; the card doesn't have them.
+#[derive(Clone, Debug, Default, PartialEq)]
 struct Said {
     cuts: Vec<(usize, bool, usize)>,
     rungs: Vec<Vec<usize>>,
+    used: Vec<usize>,
+    missing: Vec<usize>,
 }
 
 const RULES: [&str; 6] = ["left", "right", "open", "join", "seal", "sum"];
@@ -48,7 +51,7 @@ fn number(word: Option<&str>) -> Option<usize> {
 
 // A card read: a rung is its head, its rule's number and its sources.
 fn from_card(card: &str) -> Option<Said> {
-    let mut said = Said { cuts: vec![], rungs: vec![] };
+    let mut said = Said::default();
     for line in card.lines().skip(1) {
         let words: Vec<&str> = line.split(' ').collect();
         match words[..] {
@@ -120,10 +123,35 @@ struct Asked {
     goal_public: bool,
 }
 
+const AND: &str = " is the sum of what is missing and ";
+
+// The entries of a list of names in a sentence.
+fn named_list(list: &str, names: &HashMap<String, usize>) -> Option<Vec<usize>> {
+    list.split(", ").map(|name| names.get(name.strip_prefix("entry ").unwrap_or(name)).copied()).collect()
+}
+
+// The two lines on what is missing. A sum is said where there are several terms, and the goal where a known term is used.
+fn named_lack(lines: &[&str], asked: &Asked) -> Option<(Vec<usize>, Vec<usize>)> {
+    let list = lines.first()?.strip_prefix("missing: ")?;
+    let sum = list.strip_prefix("the sum of ");
+    let missing = named_list(sum.unwrap_or(list), &asked.names)?;
+    let used = match lines.get(1).map(|line| line.split_once(AND)) {
+        None => vec![],
+        Some(Some((goal, list))) if goal == asked.goal => named_list(list, &asked.names)?,
+        _ => return None,
+    };
+    (sum.is_some() == (missing.len() > 1) && lines.len() <= 2).then_some((used, missing))
+}
+
 // What `judge` said, after its first lines. Lines that say which names are one term are left out.
 fn from_judge(lines: &[&str], asked: &Asked) -> Option<Said> {
-    let mut said = Said { cuts: vec![], rungs: vec![] };
-    for line in lines.iter().filter(|line| !line.contains(" is the same term as ")) {
+    let mut said = Said::default();
+    let lines: Vec<&str> = lines.iter().copied().filter(|line| !line.contains(" is the same term as ")).collect();
+    let end = lines.iter().position(|line| line.starts_with("missing: ")).unwrap_or(lines.len());
+    if end < lines.len() {
+        (said.used, said.missing) = named_lack(&lines[end..], asked)?;
+    }
+    for line in &lines[..end] {
         match line.strip_prefix("cut ") {
             Some(_) if said.rungs.is_empty() && line.contains(": ") => said.cuts.push(named_cut(line, &asked.names, &asked.heard)?),
             _ => said.rungs.push(named_rung(line, &asked.names)?),
@@ -178,7 +206,8 @@ fn agrees(run: &Run, said: &Said, asked: &Asked) -> bool {
 fn lies(run: &Run) -> Vec<(&'static str, Run)> {
     let lines: Vec<&str> = run.out.lines().collect();
     let told = |lines: Vec<&str>| Run { out: lines.join("\n") + "\n", err: String::new(), status: run.status };
-    let no_rung = |line: &str| line.starts_with("cut ") || line.starts_with("on the hull label: ") || line.contains(" is the same ");
+    let starts = |line: &str| ["cut ", "on the hull label: ", "missing: "].iter().any(|start| line.starts_with(start));
+    let no_rung = |line: &str| starts(line) || line.contains(AND) || line.contains(" is the same ");
     let rungs: Vec<usize> = (1..lines.len()).filter(|i| !no_rung(lines[*i])).collect();
     let without = |start: &str| {
         let left_out = lines.iter().position(|line| line.starts_with(start));
@@ -192,6 +221,11 @@ fn lies(run: &Run) -> Vec<(&'static str, Run)> {
         ("another known", Run { out: run.out.replacen(" known", "1 known", 1), err: String::new(), status: run.status }),
         ("another message", Run { out: run.out.replacen(" after ", " after not_", 1), err: String::new(), status: run.status }),
         ("the other verdict", Run { out: run.out.replacen("reached: ", "out of reach: ", 1), err: String::new(), status: run.status }),
+        ("what is missing left out", without("missing: ")),
+        ("another missing term", Run { out: run.out.replacen("missing: ", "missing: not_", 1), err: String::new(), status: run.status }),
+        ("a used term left out", told(lines.iter().copied().filter(|line| !line.contains(AND)).collect())),
+        ("another used term", Run { out: run.out.replacen(AND, &format!("{AND}not_"), 1), err: String::new(), status: run.status }),
+        ("another goal", Run { out: run.out.replacen(AND, &format!("1{AND}"), 1), err: String::new(), status: run.status }),
     ];
     if let [.., one, other] = rungs[..] {
         let mut swapped = lines.clone();
@@ -233,10 +267,14 @@ fn example(c: &mut Tally, p: &Paths, path: &Path) {
     let assembled = p.dir.join("example");
     let made = run(&p.tool, &["assemble", &name, "-o", &assembled.to_string_lossy()], b"");
     c.check(&format!("{name} assembles without a note: {}", made.err), made.status == 0 && made.err.is_empty());
-    let card = run(&p.program, &[], &fs::read(&assembled).unwrap_or_default()).out;
+    let bytes = fs::read(&assembled).unwrap_or_default();
+    let card = run(&p.program, &[], &bytes).out;
     let asked = asked(&text);
-    let said = from_card(&card).unwrap_or(Said { cuts: vec![], rungs: vec![] });
+    let said = from_card(&card).unwrap_or_default();
     c.check(&format!("{name} has a card"), !said.cuts.is_empty() && said.rungs.len() == said.cuts.last().map_or(0, |cut| if cut.1 { cut.2 } else { 0 }));
+    let (cut, reached, _) = said.cuts.last().copied().unwrap_or((0, false, 0));
+    let Said { used, missing, .. } = plainly(&bytes, cut as u32);
+    let said = Said { used, missing, ..said };
     let judged = run(&p.tool, &["judge", &name], b"");
     c.check(&format!("{name}, judged:\n{}the card:\n{card}", judged.out), agrees(&judged, &said, &asked));
     for (lie, told) in lies(&judged) {
@@ -247,7 +285,9 @@ fn example(c: &mut Tally, p: &Paths, path: &Path) {
     let card_file = p.dir.join("example.card");
     fs::write(&card_file, &card).expect("the test's folder can be written");
     let drawn = [run(&p.tool, &["draw", &name], b"").out, run(&p.tool, &["draw", &name, &card_file.to_string_lossy()], b"").out];
-    c.check(&format!("{name} is drawn alike with and without its card"), drawn[0] == drawn[1] && drawn[0].starts_with("<svg"));
+    let says_missing = drawn.each_ref().map(|picture| picture.contains(">missing</text>"));
+    c.check(&format!("{name} is drawn with and without its card"), drawn.iter().all(|picture| picture.starts_with("<svg")));
+    c.check(&format!("{name} is drawn alike if it is reached"), (drawn[0] == drawn[1]) == reached && says_missing == [!reached, false]);
 }
 
 fn examples(c: &mut Tally, p: &Paths) {
@@ -260,11 +300,13 @@ fn examples(c: &mut Tally, p: &Paths) {
 
 // One cut of a sheet by the plain verdict.
 fn plainly(bytes: &[u8], cut: u32) -> Said {
-    let mut buffer = vec![0; 32 + 40 * 256];
+    let mut buffer = vec![0; FRONT + 40 * 256];
     let answer = plain::verdict(bytes, cut, 256, &mut buffer);
     let members = |set: &[u8]| (0..256).filter(|e| set[e / 8] >> (e % 8) & 1 == 1).collect::<Vec<usize>>();
+    let sets: Vec<Vec<usize>> = buffer[..FRONT].chunks(32).map(members).collect();
+    let (known, used, missing) = (sets[0].len(), sets[1].clone(), sets[2].clone());
     if answer >= 2000 {
-        return Said { cuts: vec![(cut as usize, false, members(&buffer[..32]).len())], rungs: vec![] };
+        return Said { cuts: vec![(cut as usize, false, known)], rungs: vec![], used, missing };
     }
     let made = answer as usize - 1000;
     let rung = |bytes: &[u8]| {
@@ -276,7 +318,7 @@ fn plainly(bytes: &[u8], cut: u32) -> Said {
         };
         [vec![number(0), number(2) - 1], sources].concat()
     };
-    Said { cuts: vec![(cut as usize, true, made)], rungs: buffer[32..].chunks(40).take(made).map(rung).collect() }
+    Said { cuts: vec![(cut as usize, true, made)], rungs: buffer[FRONT..].chunks(40).take(made).map(rung).collect(), used, missing }
 }
 
 // The head of each entry, by the plain verdict on a sheet whose atoms are over 255: the lowest entry that a listener who heard the one has
@@ -286,22 +328,24 @@ fn heads(entries: &[Entry]) -> Vec<usize> {
     let place = |number: &u16| numbers.range(..*number).count() as u16;
     let raise = |entry: &Entry| if let Entry::Atom(number) = entry { Entry::Atom(5000 - place(number)) } else { entry.clone() };
     let raised: Vec<Entry> = entries.iter().map(raise).collect();
-    let same = |one: u16, other: u16| plain::verdict(&sheet(&raised, &[one], other), 1, 0, &mut [0; 32]) == 1000;
+    let same = |one: u16, other: u16| plain::verdict(&sheet(&raised, &[one], other), 1, 0, &mut [0; FRONT]) == 1000;
     (0..entries.len() as u16).map(|one| usize::from((0..=one).find(|other| same(one, *other)).unwrap_or(one))).collect()
 }
 
-// The lines that say which names are one term: for public atoms, messages before the cut, the goal and the parts of what the steps name,
-// where the head is a public atom, the goal's, or named in a step.
+// The lines that say which names are one term: for public atoms, messages before the cut, the goal and the parts of what the lines before
+// name, where the head is a public atom, the goal's, or named in those lines. They are the steps, or what is used and missing of the goal.
 fn same_lines(entries: &[Entry], heads: &[usize], before: &[usize], goal: usize, said: &Said) -> Vec<String> {
     let parts = |entry: &usize| match &entries[*entry] {
         Entry::Pair(one, other) | Entry::Seal(one, other) => vec![usize::from(*one), usize::from(*other)],
         Entry::Sum(items) => items.iter().map(|item| usize::from(*item)).collect(),
         _ => vec![],
     };
-    let in_steps: BTreeSet<usize> = said.rungs.iter().flat_map(|rung| rung[2..].iter().copied().chain([rung[0]])).collect();
+    let in_steps = said.rungs.iter().flat_map(|rung| rung[2..].iter().copied().chain([rung[0]]));
+    let lacked = said.used.iter().chain(&said.missing).copied().chain((!said.missing.is_empty()).then_some(goal));
+    let told: BTreeSet<usize> = in_steps.chain(lacked).collect();
     let public: Vec<usize> = (0..entries.len()).filter(|i| matches!(entries[*i], Entry::Atom(0..=255))).collect();
-    let named: BTreeSet<usize> = in_steps.iter().flat_map(parts).chain(before.iter().copied()).chain(public.iter().copied()).chain([goal]).collect();
-    let shown = |head: usize| in_steps.contains(&head) || public.contains(&head) || head == heads[goal];
+    let named: BTreeSet<usize> = told.iter().flat_map(parts).chain(before.iter().copied()).chain(public.iter().copied()).chain([goal]).collect();
+    let shown = |head: usize| told.contains(&head) || public.contains(&head) || head == heads[goal];
     let other = named.into_iter().filter(|entry| heads[*entry] != *entry && shown(heads[*entry]));
     other.map(|entry| format!("{entry} is the same term as {}", heads[entry])).collect()
 }
@@ -309,7 +353,7 @@ fn same_lines(entries: &[Entry], heads: &[usize], before: &[usize], goal: usize,
 // Sheets as bytes with public atoms and others, each at each cut, and the refusals of damaged ones.
 fn random_sheets(c: &mut Tally, p: &Paths) {
     let mut r = Random(0x6a09e667f3bcc909);
-    let (mut same, mut public, mut no_step) = (0, 0, 0);
+    let (mut same, mut public, mut no_step, mut used, mut several) = (0, 0, 0, 0, 0);
     for _ in 0..100 {
         let (entries, heard, goal) = random_entries(&mut r, 24);
         let (bytes, heads) = (sheet(&entries, &heard, goal), heads(&entries));
@@ -327,6 +371,8 @@ fn random_sheets(c: &mut Tally, p: &Paths) {
             let wanted = same_lines(&entries, &heads, &asked.heard[..cut], goal, &said);
             c.check(&format!("{entries:?} at cut {cut}, names of one term: {lines:?}, wanted {wanted:?}"), lines == wanted);
             same += lines.len();
+            used += usize::from(!said.used.is_empty());
+            several += usize::from(said.missing.len() > 1);
         }
         public += asked.public.len();
         no_step += usize::from(goal_public);
@@ -338,6 +384,7 @@ fn random_sheets(c: &mut Tally, p: &Paths) {
         }
     }
     c.check(&format!("{same} names of one term, {public} public atoms, {no_step} public goals"), same > 100 && public > 30 && no_step > 3);
+    c.check(&format!("{used} times a term is used where the goal is out of reach, {several} times several are missing"), used > 10 && several > 5);
 }
 
 // What is said of the names on the hull label, word for word.
@@ -356,8 +403,8 @@ fn public_lines(c: &mut Tally, p: &Paths) {
     ];
     for (text, cut, first, names, then) in cases {
         let judged = run(&p.tool, &["judge", "--cut", &cut.to_string()], text.as_bytes());
-        let wanted = format!("{first}\non the hull label: {names}\ncut {cut} {then}\n");
-        let status = if first.starts_with("reached") { 3 } else { 0 };
+        let (status, missing) = if first.starts_with("reached") { (3, "") } else { (0, "missing: k\n") };
+        let wanted = format!("{first}\non the hull label: {names}\ncut {cut} {then}\n{missing}");
         c.check(&format!("{text:?} at cut {cut}:\n{}wanted\n{wanted}", judged.out), judged.out == wanted && judged.status == status && judged.err.is_empty());
     }
     let plain = run(&p.tool, &["judge"], two.replace("255", "256").replace("atom 0", "atom 1000").as_bytes());
@@ -386,7 +433,7 @@ fn public_heads(c: &mut Tally, p: &Paths) {
     let cases: [(&str, &str, Vec<&str>); 6] = [
         ("c", "4", vec![public[0], public[1], s, v]),
         ("e", "4", vec![public[0], public[1], s, v]),
-        ("u", "4", vec![public[0], public[1], s, "u is the same term as e", v]),
+        ("u", "4", vec![public[0], "7 is the same term as e", public[1], s, "u is the same term as e", v]),
         ("t", "2", vec![public[0], public[1], s, t]),
         ("v", "0", vec![public[0], public[1], v]),
         ("6", "2", vec![public[0], "6 is the same term as d", public[1], s, t]),
@@ -397,6 +444,57 @@ fn public_heads(c: &mut Tally, p: &Paths) {
         let label = judged.out.lines().nth(1) == Some("on the hull label: a, b");
         c.check(&format!("goal {goal} at cut {cut}:\n{}wanted {wanted:?}", judged.out), lines == wanted && label);
     }
+}
+
+// What is said of what is missing, word for word: the text, the cut, and the lines after the cut's.
+const LACKS: [(&str, &str, &str); 10] = [
+    ("pad atom\nkey atom\nmasked sum key pad\nheard masked\ngoal key\n", "1", "missing: pad\nkey is the sum of what is missing and masked\n"),
+    ("pad atom\nkey atom\nmasked sum key pad\nheard masked\ngoal key\n", "0", "missing: key\n"),
+    ("key atom\npad atom\nmasked sum key pad\nheard masked\ngoal key\n", "1", "missing: key\n"),
+    ("0 atom 1000\n1 atom 1001\n2 sum 0 1\nheard 2\ngoal 1\n", "1", "missing: entry 0\nentry 1 is the sum of what is missing and entry 2\n"),
+    ("a atom\nb atom\nc atom\ns sum c b a b b\nheard\ngoal s\n", "0", "missing: the sum of a, b, c\n"),
+    (
+        "a atom\n1 atom\nx atom\ny atom\ns sum a 1\n5 sum s x y\nheard y x\ngoal 5\n",
+        "2",
+        "missing: the sum of a, entry 1\nentry 5 is the sum of what is missing and x, y\n",
+    ),
+    // A name on the hull label is used too.
+    (
+        "pad atom\nkey atom\nsign atom 7\nmasked sum key pad sign\nheard masked\ngoal key\n",
+        "1",
+        "missing: pad\nkey is the sum of what is missing and sign, masked\n",
+    ),
+    // A used term that was gained by a step.
+    (
+        "pad atom\nkey atom\nmasked sum key pad\nk atom\nbox seal masked k\nheard box k\ngoal key\n",
+        "2",
+        "missing: pad\nkey is the sum of what is missing and masked\n",
+    ),
+    // A pair and a seal are missing as a whole.
+    ("a atom\np pair a a\nq seal a a\ng sum p q\nheard\ngoal g\n", "0", "missing: the sum of p, q\n"),
+    // Each name here has another one: of what is missing, of what is used, of the goal.
+    (
+        "pad atom\nkey atom\nz zero\npad2 sum pad z\nmasked sum key pad2\nmasked2 sum z masked\nkey2 sum key\nz2 sum key key2\nheard masked2\ngoal key2\n",
+        "1",
+        "missing: pad\nkey2 is the sum of what is missing and masked\n\
+         pad2 is the same term as pad\nmasked2 is the same term as masked\nkey2 is the same term as key\n",
+    ),
+];
+
+fn missing_lines(c: &mut Tally, p: &Paths) {
+    for (text, cut, wanted) in LACKS {
+        let judged = run(&p.tool, &["judge", "--cut", cut], text.as_bytes());
+        let lines = judged.out.lines().skip_while(|line| !line.starts_with("cut ")).skip(1);
+        let found: String = lines.map(|line| format!("{line}\n")).collect();
+        c.check(&format!("{text:?} at cut {cut}:\n{}wanted\n{wanted}", judged.out), found == wanted && judged.status == 0 && judged.err.is_empty());
+    }
+    // All cuts are judged, and the lines are about the last.
+    let (text, _, wanted) = LACKS[0];
+    let judged = run(&p.tool, &["judge"], text.as_bytes());
+    let last = judged.out.ends_with(&format!("cut 1 after masked: out of reach, 1 known\n{wanted}"));
+    c.check(&judged.out, last && judged.out.matches("missing").count() == 2);
+    let reached = run(&p.tool, &["judge"], text.replace("heard masked", "heard masked pad").as_bytes());
+    c.check("a reached goal lacks nothing", reached.status == 3 && !reached.out.contains("missing"));
 }
 
 fn statuses(c: &mut Tally, p: &Paths) {
@@ -438,14 +536,17 @@ fn forms(c: &mut Tally, p: &Paths) {
     c.check(&right.out, right.out.ends_with("\nb split right p\n"));
 }
 
-// What examples/README.md shows is what is printed.
+// What examples/README.md shows is what is printed and drawn.
 fn shown(c: &mut Tally, p: &Paths) {
     let readme = fs::read_to_string(p.root.join("examples/README.md")).unwrap_or_default();
-    for (i, name) in ["examples/nsl-xor-calls.sheet", "examples/hull-label.sheet"].iter().enumerate() {
+    for (i, name) in ["examples/nsl-xor-calls.sheet", "examples/hull-label.sheet", "examples/flight-link-missing.sheet"].iter().enumerate() {
         let block = readme.split("```text\n").nth(i + 1).and_then(|rest| rest.split("```").next()).unwrap_or("");
         let judged = run(&p.tool, &["judge", &p.root.join(name).to_string_lossy()], b"");
         c.check(&format!("examples/README.md shows for {name}\n{block}"), judged.out == block);
     }
+    let picture = fs::read_to_string(p.root.join("examples/flight-link-missing.svg")).unwrap_or_default();
+    let drawn = run(&p.tool, &["draw", &p.root.join("examples/flight-link-missing.sheet").to_string_lossy()], b"");
+    c.check("examples/flight-link-missing.svg", drawn.out == picture && readme.contains("(flight-link-missing.svg)"));
 }
 
 // The version is the C header's, where the header has one.
@@ -472,6 +573,7 @@ fn main() {
     public_lines(&mut c, &p);
     public_orders(&mut c, &p);
     public_heads(&mut c, &p);
+    missing_lines(&mut c, &p);
     statuses(&mut c, &p);
     forms(&mut c, &p);
     shown(&mut c, &p);

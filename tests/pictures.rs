@@ -1,8 +1,10 @@
 // The tool's pictures: a box a rung and a line a source, nothing over anything, no wider than a browser's window, public atoms and heard
-// messages in order and beside their first use; cards that are wrong or damaged give none. The tool's path is the first argument.
+// messages in order and beside their first use; used and missing terms of a goal that is out of reach; cards that are wrong or damaged give
+// none. The tool's path is the first argument.
 
 mod cards;
 mod plain;
+mod shapes;
 #[allow(dead_code)] // each test uses a part
 mod sheets;
 mod tally;
@@ -20,6 +22,8 @@ mod dot;
 mod graph;
 #[path = "../tools/sheet/heads.rs"]
 mod heads;
+#[path = "../tools/sheet/lack.rs"]
+mod lack;
 #[path = "../tools/sheet/layout.rs"]
 mod layout;
 #[allow(dead_code)]
@@ -37,7 +41,8 @@ mod svg;
 mod words;
 
 use cards::{card_of, large, random_sheet};
-use sheets::{damage, sheet, Entry, Random};
+use shapes::{apart, areas, box_of, boxes_of, clear, lines_of, well_formed};
+use sheets::{damage, sheet, Entry, Random, FRONT};
 use std::collections::BTreeSet;
 use std::io::Write;
 use std::path::PathBuf;
@@ -68,51 +73,6 @@ impl Checks {
 }
 
 const TEXT_A: &str = "key atom 1007\nmask atom 1009\nmasked sum key mask\nsession atom 1012\nbox seal session key\nheard masked box mask\ngoal session\n";
-
-// Tags are balanced, attributes quoted, and every & begins an entity.
-fn well_formed(text: &str) -> bool {
-    let mut open: Vec<&str> = Vec::new();
-    let mut parts = text.split('<');
-    let entities = |s: &str| s.split('&').skip(1).all(|rest| ["amp;", "lt;", "gt;", "quot;", "#39;"].iter().any(|e| rest.starts_with(e)));
-    if !entities(text) || !parts.next().unwrap_or("").trim().is_empty() {
-        return false;
-    }
-    for part in parts {
-        // A part without its > has an empty name, which is a fault below.
-        let (tag, after) = part.split_once('>').unwrap_or(("", ""));
-        let name = tag.split([' ', '/']).next().unwrap_or("");
-        if let Some(closed) = tag.strip_prefix('/') {
-            if open.pop() != Some(closed) {
-                return false;
-            }
-        } else if tag.matches('"').count() % 2 == 1 || name.is_empty() {
-            return false;
-        } else if !tag.ends_with('/') {
-            open.push(name);
-        }
-        if after.contains('>') || (open.is_empty() && !after.trim().is_empty()) {
-            return false;
-        }
-    }
-    open.is_empty()
-}
-
-// The corners of every box: left, top, right, bottom.
-fn areas(picture: &str) -> Vec<[f64; 4]> {
-    let boxes = picture.split("<g class=").skip(1).filter_map(|group| group.split("<rect").nth(1)?.split('>').next());
-    boxes.filter_map(area).collect()
-}
-
-fn area(tag: &str) -> Option<[f64; 4]> {
-    let value = |name: &str| tag.split(&format!(" {name}=\"")).nth(1)?.split('"').next()?.parse::<f64>().ok();
-    let (x, y) = (value("x")?, value("y")?);
-    Some([x, y, x + value("width")?, y + value("height")?])
-}
-
-fn apart(areas: &[[f64; 4]]) -> bool {
-    let clear = |a: &[f64; 4], b: &[f64; 4]| a[2] < b[0] || b[2] < a[0] || a[3] < b[1] || b[3] < a[1];
-    areas.iter().enumerate().all(|(i, a)| areas[..i].iter().all(|b| clear(a, b)))
-}
 
 fn graph_of(bytes: &[u8], card: &str) -> Result<graph::Graph, String> {
     let sheet = bytes::decode(bytes).map_err(|n| n.to_string())?;
@@ -149,10 +109,15 @@ fn shows(c: &mut Checks, picture: &str, card: &str) {
     let (out, reached) = (picture.contains(">out of reach: entry "), picture.contains(">reached: entry "));
     c.check("the title begins with the verdict", reached == card.contains("reached") && out != reached);
     c.check("out of reach is said", picture.contains(">out of reach</text>") == out);
+    c.check("a card says nothing of what is missing", !picture.contains("missing"));
     c.check("a line a source", picture.matches("<path class=\"tip").count() == sources(card));
+    narrow(c, picture);
+    start_boxes(c, picture, &rungs);
+}
+
+fn narrow(c: &mut Checks, picture: &str) {
     let width = picture.split(" width=\"").nth(1).and_then(|rest| rest.split('"').next()?.parse::<f64>().ok());
     c.check(&format!("{width:?} is no wider than a window"), width.map_or(false, |width| width <= MOST_WIDTH));
-    start_boxes(c, picture, &rungs);
 }
 
 // The heads that are public, by another way than the tool's: a list of the numbers seen so far. Then the different heads that were heard
@@ -194,17 +159,6 @@ fn shows_starts(c: &mut Checks, svg: &str, dot: &str, bytes: &[u8], card: &str) 
     public.len()
 }
 
-// The boxes of one part: the tag of each, and its left and upper edge.
-fn boxes_of(part: &str) -> Vec<(String, f64, f64)> {
-    let groups = part.split("<g class=").skip(1);
-    let one = |group: &str| {
-        let told = group.split("<title>").nth(1)?.split("</title>").next()?.to_string();
-        let corner = area(group.split("<rect").nth(1)?.split('>').next()?)?;
-        Some((told, corner[0], corner[1]))
-    };
-    groups.filter_map(one).collect()
-}
-
 // In a column, public atoms stand in the order of their entries, and heard messages after them in the order heard; and each stands just
 // before the first column that uses it.
 fn start_boxes(c: &mut Checks, picture: &str, rungs: &[&str]) {
@@ -239,6 +193,98 @@ fn sources(card: &str) -> usize {
     rungs.map(|line| line.split(' ').skip(3).collect::<BTreeSet<_>>().len()).sum()
 }
 
+// Used and missing entries where the goal is out of reach with all messages heard, by the plain verdict.
+fn lack_of(bytes: &[u8]) -> Option<card::Lack> {
+    let mut buffer = vec![0; FRONT + 40 * 256];
+    let answer = plain::verdict(bytes, u32::from(bytes[6]) * 256 + u32::from(bytes[7]), 256, &mut buffer);
+    let members = |set: &[u8]| (0..256).filter(|e| set[e / 8] >> (e % 8) & 1 == 1).collect::<Vec<usize>>();
+    let sets: Vec<Vec<usize>> = buffer[..FRONT].chunks(32).map(members).collect();
+    (answer / 1000 == 2).then(|| card::Lack { used: sets[1].clone(), missing: sets[2].clone() })
+}
+
+// A box for each used term and each missing one, a line from each, and nothing over anything.
+fn shows_sum(c: &mut Checks, svg: &str, dot: &str, lack: &card::Lack) {
+    let (boxes, areas, lines) = (boxes_of(svg), areas(svg), lines_of(svg));
+    let count = |class: &str| svg.matches(&format!("<g class=\"{class}\">")).count();
+    c.check("a box a missing term", count("missing") == lack.missing.len() && count("missed goal") == 1);
+    c.check("a box a used term", count("public") + count("heard") + count("gained") == lack.used.len() && count("rung") == 0);
+    let number = |rest: &str| rest.split(|c: char| !c.is_ascii_digit()).next().and_then(|digits| digits.parse::<usize>().ok());
+    let named = |told: &str, e: usize| told.split("entry ").skip(1).any(|rest| number(rest) == Some(e));
+    let is = |told: &str, missing: bool| told.starts_with("missing: ") == missing && !told.starts_with("not gained: ");
+    let has = |e: &usize, missing: bool| boxes.iter().any(|one| is(&one.0, missing) && named(&one.0, *e));
+    c.check(&format!("{lack:?} by name in\n{svg}"), lack.used.iter().all(|e| has(e, false)) && lack.missing.iter().all(|e| has(e, true)));
+    let from = |area: &[f64; 4], missing: bool| {
+        let near = |point: &(f64, f64)| (point.0 - area[2]).abs() < 0.2 && (point.1 - (area[1] + area[3]) / 2.0).abs() < 0.2;
+        lines.iter().any(|(dashed, points)| *dashed == missing && points.first().map_or(false, near))
+    };
+    let mut sources = areas.iter().zip(&boxes).filter(|(_, one)| !one.0.starts_with("not gained: "));
+    c.check("a line from each term", sources.all(|(area, one)| from(area, one.0.starts_with("missing: "))));
+    c.check("no other line", lines.len() == lack.used.len() + lack.missing.len());
+    c.check(&format!("no line runs over a box in\n{svg}"), clear(&lines, &areas));
+    c.check("a wall beside used terms", svg.contains("<path class=\"wall\"") != lack.used.is_empty());
+    c.check("an edge a term in dot", dot.matches(" -> ").count() == lines.len());
+    let dashed = [" [style=dashed, color=\"#c0392b\"];", "[label=\"missing\\n"].map(|part| dot.matches(part).count());
+    c.check(&format!("missing terms are dashed in\n{dot}"), dashed == [lack.missing.len(); 2]);
+}
+
+// The goal alone is missing: its box says so, and everything that was heard is drawn, as for the card.
+fn shows_goal_missing(c: &mut Checks, svg: &str, dot: &str, card_picture: &str) {
+    let told = |picture: &str| boxes_of(picture).into_iter().map(|one| one.0).collect::<Vec<_>>();
+    let as_missing: Vec<String> = told(card_picture).iter().map(|told| told.replace("not gained: ", "missing: ")).collect();
+    c.check("the boxes of the card's picture", told(svg) == as_missing && svg.matches(">missing</text>").count() == 1);
+    c.check("nothing leads to the goal", lines_of(svg).is_empty() && !dot.contains(" -> ") && dot.matches("[label=\"missing (goal)\\n").count() == 1);
+}
+
+// The picture of a goal that is out of reach as the library's answer gives it. Answers whether used and missing terms are drawn.
+fn shows_lack(c: &mut Checks, bytes: &[u8], card: &str, lack: &card::Lack) -> bool {
+    let sheet = bytes::decode(bytes).expect("a good sheet");
+    let heads = heads::Heads::of(&sheet);
+    let known = card.lines().last().and_then(|line| line.split(' ').last()?.parse().ok()).unwrap_or(0);
+    let graph = graph::graph(&sheet, &heads, &card::Card::OutOfReach { known, lack: Some(lack.clone()) });
+    let (svg, dot, goal) = (svg::svg(&graph), dot::dot(&graph), lack.missing == [heads.head[sheet.goal]]);
+    c.check("out of reach is well formed", well_formed(&svg) && apart(&areas(&svg)) && svg.matches(">GOAL</text>").count() == 1);
+    c.check("its verdict", svg.contains(">out of reach: entry ") && svg.contains(">out of reach</text>") && svg.contains(&format!(">Known: {known} of ")));
+    narrow(c, &svg);
+    c.check("the style of missing terms", svg.contains("\n.missing rect{") != goal);
+    if goal {
+        let drawn = pictured(bytes, card).map_or(String::new(), |(svg, _)| svg);
+        shows_goal_missing(c, &svg, &dot, &drawn);
+    } else {
+        shows_sum(c, &svg, &dot, lack);
+    }
+    !goal
+}
+
+// A sheet of atoms, seals and sums, of which some are heard, so that much is used and missing.
+fn sums(r: &mut Random) -> Vec<u8> {
+    let n = 4 + r.below(60);
+    let first = 2 + r.below(n / 2);
+    let entry = |r: &mut Random, i: u64| match (i < first, r.below(8)) {
+        (true, 0) => Entry::Atom(i as u16),
+        (true, _) => Entry::Atom(1000 + i as u16),
+        (false, 0) => Entry::Seal(r.below(i) as u16, r.below(i) as u16),
+        _ => Entry::Sum((0..2 + r.below(8)).map(|_| r.below(i) as u16).collect()),
+    };
+    let entries: Vec<Entry> = (0..n).map(|i| entry(r, i)).collect();
+    let heard: Vec<u16> = (0..r.below(n / 2)).map(|_| r.below(n) as u16).collect();
+    sheet(&entries, &heard, r.below(n) as u16)
+}
+
+fn sums_with_missing_terms(c: &mut Checks) {
+    let mut r = Random(0x8f1bbcdcbfa53e0b);
+    let (mut summed, mut used, mut several) = (0, 0, 0);
+    for _ in 0..400 {
+        let bytes = sums(&mut r);
+        if let Some(lack) = lack_of(&bytes) {
+            summed += usize::from(shows_lack(c, &bytes, &card_of(&bytes), &lack));
+            used += usize::from(!lack.used.is_empty());
+            several += usize::from(lack.missing.len() > 1);
+        }
+    }
+    let drawn = format!("{summed} sums with missing terms, {used} with a used term, {several} with several missing");
+    c.check(&drawn, summed > 60 && used > 60 && several > 60);
+}
+
 fn pictures(c: &mut Checks) {
     let mut r = Random(0xd1b54a32d192ed03);
     let mut public = 0;
@@ -252,6 +298,9 @@ fn pictures(c: &mut Checks) {
                 public += shows_starts(c, &svg, &dot, &bytes, &card);
                 c.check("a node a rung in dot", dot.matches("[label=\"step ").count() == card.matches("rung ").count());
                 c.check("an edge a source in dot", dot.matches(" -> ").count() == sources(&card));
+                if let Some(lack) = lack_of(&bytes) {
+                    shows_lack(c, &bytes, &card, &lack);
+                }
             }
             Err(message) => c.check(&format!("{card}: {message}"), false),
         }
@@ -284,12 +333,6 @@ fn pictures_by_the_tool(c: &mut Checks) {
     let text = c.draws(&["-"], b"a atom 1001\ns seal a a\nheard s\ngoal a\n");
     let said = text.contains(">out of reach</text>") && text.contains("Known: 1 of the sheet&#39;s 2 different terms");
     c.check("out of reach is drawn", well_formed(&text) && said && text.contains(">out of reach: a after 1 heard message<"));
-}
-
-// The box with this name, as far as its end.
-fn box_of<'a>(picture: &'a str, name: &str) -> &'a str {
-    let mut boxes = picture.split("<g class=").filter_map(|group| group.split("</g>").next());
-    boxes.find(|one| one.contains("<text class=\"name\"") && one.contains(&format!(">{name}</text>"))).unwrap_or("")
 }
 
 // A term with two names bears both where a line comes from one and the other box says the other.
@@ -405,12 +448,74 @@ fn public_out_of_reach(c: &mut Checks) {
     c.check("every public atom is drawn once", counts(&picture) == [2, 1, 0] && well_formed(&picture) && apart(&areas(&picture)));
     c.check("how many are known", picture.contains("Known: 3 of the sheet&#39;s 4 different terms"));
     let dot = c.draws(&["--dot", "-"], text.as_bytes());
-    let nodes = ["on the hull label\\nname\\n", "on the hull label\\nother\\n", "heard 2\\nbox\\n", "not gained (goal)\\nkey\\n"];
+    let nodes = ["on the hull label\\nname\\n", "on the hull label\\nother\\n", "heard 2\\nbox\\n", "missing (goal)\\nkey\\n"];
     let starts: Vec<usize> = nodes.iter().filter_map(|part| dot.find(part)).collect();
     c.check(&format!("public atoms, heard messages, the goal: {starts:?} in\n{dot}"), starts.len() == 4 && starts.windows(2).all(|two| two[0] < two[1]));
     let few = c.draws(&["-"], b"key atom\nname atom 5\ngoal key\n");
     c.check("a public atom and nothing heard", counts(&few) == [1, 0, 0] && !few.contains(">nothing heard<"));
     c.check("nothing at all", c.draws(&["-"], b"key atom\ngoal key\n").contains(">nothing heard<"));
+}
+
+// The pad is listed above the key that it masks, and the masked key is heard, or gained by opening a seal.
+const MASKED: &str = "pad atom 1009\nkey atom 1007\nmasked sum key pad\nother atom 1012\nname atom 5\nheard masked other\ngoal key\n";
+const OPENED: &str = "pad atom\nkey atom\nk atom\nmasked sum key pad\nbox seal masked k\nheard box k\ngoal key\n";
+
+// What is missing, drawn by the tool.
+fn missing_pictures(c: &mut Checks) {
+    let picture = c.draws(&["-"], MASKED.as_bytes());
+    let pad = box_of(&picture, "pad");
+    c.check("a missing term", pad.starts_with("\"missing\">") && pad.contains("<title>missing: pad = atom 1009</title>") && pad.contains(">missing</text>"));
+    let goal = box_of(&picture, "key");
+    c.check("a goal that isn't gained", goal.starts_with("\"missed goal\">") && goal.contains(">not gained</text>"));
+    c.check("a used term", box_of(&picture, "masked").starts_with("\"heard\">") && counts(&picture) == [0, 1, 0]);
+    let notes = [
+        ">out of reach: key after 2 heard messages<",
+        ">Known: 3 of the sheet&#39;s 5 different terms.<",
+        ">With the missing term a listener gains the goal.<",
+        ">Not drawn: 1 atom on the hull label outside the sum.<",
+        ">Not drawn: 1 heard message outside the sum.<",
+    ];
+    notes.iter().for_each(|note| c.check(note, picture.contains(note)));
+    c.check("everything stays with --needed", c.draws(&["--needed", "-"], MASKED.as_bytes()) == picture);
+    let dot = c.draws(&["--dot", "-"], MASKED.as_bytes());
+    let nodes = ["n0 [label=\"heard 1\\nmasked\\n", "n1 [label=\"missing\\npad\\n", "n2 [label=\"not gained (goal)\\nkey\\n"];
+    let edges = ["n0 -> n2 [color=", "n1 -> n2 [style=dashed, "];
+    nodes.iter().chain(&edges).for_each(|part| c.check(&format!("{part} in\n{dot}"), dot.contains(part)));
+    let opened = c.draws(&["-"], OPENED.as_bytes());
+    let gained = box_of(&opened, "masked");
+    c.check("a term that was gained by steps", gained.starts_with("\"gained\">") && gained.contains(">gained</text>") && counts(&opened) == [0, 0, 0]);
+    let public = c.draws(&["-"], MASKED.replace("1009\n", "1009\nsign atom 7\n").replace("key pad", "key pad sign").as_bytes());
+    c.check("a name that is used", counts(&public) == [1, 1, 0] && box_of(&public, "sign").contains(">on the hull label</text>"));
+    let goal = c.draws(&["-"], MASKED.replace("heard masked", "heard").as_bytes());
+    c.check("a goal that is missing itself", box_of(&goal, "key").contains(">missing</text>") && counts(&goal) == [1, 1, 0] && !goal.contains(">not gained<"));
+    let names = "pad atom\nkey atom\npad2 sum pad\nmasked sum key pad2\nkey2 sum key\nsame sum masked\nheard same masked\ngoal key2\n";
+    let picture = c.draws(&["-"], names.replace("heard same", "heard").as_bytes());
+    let same = |picture: &str, name: &str, other: &str| box_of(picture, name).contains(&format!(">same as {other}</text>"));
+    c.check("other names of what is missing and of the goal", same(&picture, "pad", "pad2") && same(&picture, "key2", "key"));
+    let heard = c.draws(&["-"], names.as_bytes());
+    c.check("another name of a used term", same(&heard, "same", "masked") && heard.contains("<title>heard 1, 2: same = masked, the same as masked</title>"));
+}
+
+// Many used and missing terms, with short names and with long ones.
+fn many_missing(c: &mut Checks) {
+    for (missing, used, name) in [(1, 9, "x"), (2, 8, "x"), (9, 0, "x"), (30, 60, "x"), (110, 120, "x"), (20, 31, "frequency_hopping_frequency_hopping_")] {
+        let atoms: String = (0..missing + used).map(|i| format!("{name}{i} atom\n")).collect();
+        let items: Vec<String> = (0..missing + used).map(|i| format!("{name}{i}")).collect();
+        let sums: String = items.chunks(60).enumerate().map(|(i, part)| format!("s{i} sum {}\n", part.join(" "))).collect();
+        let whole: Vec<String> = (0..items.chunks(60).len()).map(|i| format!("s{i}")).collect();
+        let text = format!("{atoms}{sums}{name}goal sum {}\nheard {}\ngoal {name}goal\n", whole.join(" "), items[missing..].join(" "));
+        let picture = c.draws(&["-"], text.as_bytes());
+        let what = format!("{missing} missing, {used} used, {name}");
+        let (areas, lines) = (areas(&picture), lines_of(&picture));
+        c.check(&what, picture.matches("<g class=\"missing\">").count() == missing && counts(&picture) == [0, used, 0]);
+        c.check(&format!("{what}: nothing over anything"), well_formed(&picture) && apart(&areas) && clear(&lines, &areas) && lines.len() == missing + used);
+        let right = areas.iter().map(|area| area[2]).fold(0.0, f64::max);
+        let columns: BTreeSet<i64> = areas.iter().map(|area| area[0] as i64).collect();
+        c.check(&format!("{what}: {right}, {columns:?}"), right <= MOST_WIDTH && (columns.len() > 2) == (missing + used > 9));
+        let sum = if missing == 1 { "missing term" } else { "sum of the missing terms" };
+        c.check(&format!("{what}: the note"), picture.contains(&format!(">With the {sum} a listener gains the goal.<")));
+        narrow(c, &picture);
+    }
 }
 
 // What the goal doesn't need may be public; and a long ladder names a public atom of an earlier part.
@@ -480,6 +585,7 @@ fn main() {
     let tool = std::env::args_os().nth(1).map(PathBuf::from).and_then(|path| path.canonicalize().ok()).expect("the tool's path");
     let mut c = Checks { tool, tally: Tally::default() };
     pictures(&mut c);
+    sums_with_missing_terms(&mut c);
     pictures_by_the_tool(&mut c);
     names(&mut c);
     needed(&mut c);
@@ -488,6 +594,8 @@ fn main() {
     public_order(&mut c);
     public_out_of_reach(&mut c);
     public_needed(&mut c);
+    missing_pictures(&mut c);
+    many_missing(&mut c);
     wrong_rungs(&mut c);
     hurt_cards(&mut c);
     c.tally.end("pictures");

@@ -1,6 +1,7 @@
-/* The header's kinds, rules and places, on one sheet whose goal takes a rung by each rule. */
+/* The header's kinds, rules and places, on one sheet whose goal takes a rung by each rule; and with another goal, what is missing of it. */
 #include "zuwendryk.h"
 #include <stdio.h>
+#include <string.h>
 
 #define N(x) 0, (x)                /* a number below 256 */
 #define SECRET(x) 3, 232 + (x)     /* 1,000 and a number below 24: an atom that isn't on the hull label */
@@ -51,11 +52,46 @@ static int same_rung(const uint8_t *rung, const unsigned *expected) {
            expect("a set", rung[ZUWENDRYK_RUNG_SET], expected[4]);
 }
 
-int main(void) {
-    static uint8_t buffer[ZUWENDRYK_BUFFER(ZUWENDRYK_MOST_RUNGS)];
-    uint32_t answer = zuwendryk_verdict(sheet, sizeof sheet, HEARD, ZUWENDRYK_MOST_RUNGS, buffer, sizeof buffer);
-    int good = expect("the answer", answer, ZUWENDRYK_REACHED + RUNGS);
-    good &= expect("the gained set", buffer[0] + 256u * buffer[1], (1 << ZERO) - 1);
+static uint8_t buffer[ZUWENDRYK_BUFFER(ZUWENDRYK_MOST_RUNGS)];
+
+/* The set at a place of the buffer has these members, all below 16. */
+static int same_set(const char *what, size_t at, unsigned members) {
+    int good = expect(what, buffer[at] + 256u * buffer[at + 1], members);
+    for (size_t i = 2; good && i < ZUWENDRYK_SET; i++) good = expect(what, buffer[at + i], 0);
+    return good;
+}
+
+/* The verdict, over a buffer whose bytes were all set. */
+static uint32_t verdict(const uint8_t *bytes, uint32_t cut) {
+    memset(buffer, 0xee, sizeof buffer);
+    return zuwendryk_verdict(bytes, sizeof sheet, cut, ZUWENDRYK_MOST_RUNGS, buffer, sizeof buffer);
+}
+
+static int reached(void) {
+    int good = expect("the answer", verdict(sheet, HEARD), ZUWENDRYK_REACHED + RUNGS);
+    good &= same_set("the gained set", ZUWENDRYK_GAINED_AT, (1 << ZERO) - 1);
+    good &= same_set("the used set of a reached goal", ZUWENDRYK_USED_AT, 0);
+    good &= same_set("the remainder of a reached goal", ZUWENDRYK_REMAINDER_AT, 0);
     for (unsigned i = 0; i < RUNGS; i++) good &= same_rung(buffer + ZUWENDRYK_BUFFER(i), rungs[i]);
+    return good;
+}
+
+/* The sum of M and Z is heard first, and the goal is Z: it is used, and M is missing. Zero is gained by a rung. */
+static int missing(void) {
+    uint8_t other[sizeof sheet];
+    memcpy(other, sheet, sizeof sheet);
+    other[9] = Z;
+    other[ZUWENDRYK_HEARD_AT(ENTRIES) + 1] = SUM;
+    int good = expect("the answer to the other goal", verdict(other, 1), ZUWENDRYK_OUT_OF_REACH + 1);
+    good &= same_set("the gained set with the other goal", ZUWENDRYK_GAINED_AT, 1 << SUM | 1 << ZERO);
+    good &= same_set("the used set", ZUWENDRYK_USED_AT, 1 << SUM);
+    good &= same_set("the remainder", ZUWENDRYK_REMAINDER_AT, 1 << M);
+    good &= expect("the gained entry of the rung", number(buffer + ZUWENDRYK_FRONT + ZUWENDRYK_RUNG_GAINED), ZERO);
+    return good;
+}
+
+int main(void) {
+    int good = reached();
+    good &= missing();
     return !good;
 }

@@ -223,7 +223,7 @@ fn usage(c: &mut Checks) {
         (&["assemble", "--help"], "usage: sheet assemble "),
         (&["disassemble", "-h"], "usage: sheet disassemble "),
         (&["draw", "x", "--help"], "usage: sheet draw "),
-        (&["--version"], "sheet 2."),
+        (&["--version"], "sheet 3."),
     ];
     for (words, start) in told {
         let run = c.run(words, b"");
