@@ -197,8 +197,8 @@ extern "C" {
  *
  * No member of the remainder is the highest-numbered standard entry in any sum of gained terms. Only one remainder and one used set are so, and
  * the remainder is written in the lowest-numbered terms that will do. So the order of the entries decides in which terms a planner reads the
- * answer. List the terms whose loss is feared, as pads and masks, above the terms that are built with them. Let a key be sent summed with a pad,
- * let nothing else be heard, and let the key be the goal:
+ * answer: give the terms whose loss is feared, as pads and masks, lower numbers than the keys that they hide. Let a key be sent summed with a
+ * pad, let nothing else be heard, and let the key be the goal:
  *
  *     entries                                      used set    remainder
  *     0 the pad, 1 the key, 2 the sum of both      2           0, the pad

@@ -64,7 +64,7 @@ terms with which it sums to the goal, if there are any:
     missing: TERM                   missing: the sum of TERM, TERM
     GOAL is the sum of what is missing and TERM, TERM
 
-What is missing is told by the lowest-numbered terms that will do. So list pads and masks above what is built with them.
+What is missing is told by the lowest-numbered terms that will do. So list pads and masks above the keys that they hide.
 
     --cut C    only the first C heard messages
 
