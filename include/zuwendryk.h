@@ -222,10 +222,14 @@ extern "C" {
 /* WHAT IS PROVED, by machine, for every sheet, cut, budget and buffer for which the caller gives what it owes: which number comes back; every byte
  * of the buffer afterwards; that the verdict is right; that no memory but the two areas and the stack is touched; and that the call ends. A verdict
  * is right when out of reach comes only where no finite row of steps gains the goal, through terms on the sheet or not, and with a budget of n or
- * more always there; and when the rungs of a reached goal follow from names, messages and each other, gain it, and are at most n. Of used set
- * and remainder at out of reach: that the used entries are of those that a sum rung draws on, and the remainder's members standard entries; that
- * they sum to the goal's term; that no member of the remainder is the highest-numbered standard entry in a sum of gained terms; and that no other
- * two sets are so. Assumed are the checker, the compiler's back end, and that keys are perfect: a seal shows nothing without its key. */
+ * more always there; and when the rungs of a reached goal follow from names, messages and each other, gain it, and are at most n.
+ *
+ * At out of reach it is proved that used set and remainder are as WHAT IS MISSING says: the used entries are of those that a sum rung draws on, and
+ * the remainder's members are standard entries; they sum to the goal's term; no member of the remainder is the highest-numbered standard entry in
+ * a sum of gained terms; no other two sets are so. The remainder isn't empty, and none of its members is gained. No finite row of steps gains the
+ * sum of its terms, and a listener who had that sum would gain the goal.
+ *
+ * Assumed are the checker, the compiler's back end, and that keys are perfect: a seal shows nothing without its key. */
 
 /* The verdict on a sheet after the first `cut` heard messages, 0 to h, with at most `budget` rungs, 0 to 256. The answers and the buffer's bytes are
  * said above. A budget of ZUWENDRYK_MOST_RUNGS is enough for every sheet. The time grows with the square of n. */
