@@ -87,7 +87,7 @@ fn rung_line(sheet: &Sheet, rung: &Rung) -> String {
     format!("{} {words}{space}{}\n", sheet.label(rung.head), names.join(between))
 }
 
-// What is missing of the goal, and the known terms that it then is a sum with.
+// What is missing of the goal, and the known terms that are used with it.
 fn lack_lines(sheet: &Sheet, lack: &Lack) -> String {
     let names = |list: &[usize]| list.iter().map(|entry| sheet.heading(*entry)).collect::<Vec<_>>().join(", ");
     let sum = if lack.missing.len() > 1 { "the sum of " } else { "" };
