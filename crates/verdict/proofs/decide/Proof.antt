@@ -59,7 +59,7 @@ run-requires c κs = let m = c .before .before .before .before .before .before .
       room = h .1 .0;
       cache = h .1 .1 .1 .0;
       limit = s .pre .2;
-      space = s .pre .3;
+      space = omega (arith, s .pre .3);
     }
 
 goal-requires : tie.Need-goal-requires
