@@ -1,21 +1,28 @@
 -- Exactness: steps within the entries of a sheet lose nothing against derivations over terms of any size.
 -- Shown: `exactness`, a set of entries closed under the six rules within the sheet, with the start, has every entry that any derivation
 -- from the start holds; `exactness-from`, the same for a start of any terms that can be put together from such a set; `reach-exact`, the
--- entries reached within the sheet are exactly the derivable ones; `kept-underivable`, a way to show that an entry isn't derivable.
+-- entries reached within the sheet are exactly the derivable ones; `exactness-sums`, of sums of entries those of such a set are held and no others; `kept-underivable`, a way to show that an entry isn't derivable.
 -- Assumes nothing: no excluded middle, and the set of entries may be any predicate.
-use mathlib.Core.Path.{subst}
+use mathlib.Core.Path.{_≡_, sym, ap, _∙_, subst}
+use mathlib.Core.Bool.{true}
 use mathlib.Core.Logic.{_↔_}
 use mathlib.Core.List.{List, map, List·Memᴰ, Memᴰ·of-map}
 use Prim.Native.Nat.{ℕ, _<_}
 use lib.Bits.{bitXor}
-use Rattle.deduction.specs.Term.{Term}
+use Rattle.bitset.specs.Set.{member}
+use Rattle.deduction.specs.Term.{Term, sumOf, _≈_}
 use Rattle.deduction.specs.Entry.{Entry, termAt, Downward}
+use Rattle.deduction.specs.Standard.{sumOfSet}
 use Rattle.deduction.specs.Derivation.{Holds, Derivation, Derivable}
 use Rattle.deduction.proofs.Exactness.Within.{Closed, Reach}
 use Rattle.deduction.proofs.Coding.{code}
+use Rattle.deduction.proofs.Pieces.{by-code}
+use Rattle.deduction.proofs.Elimination.Sums.{xorOver-member}
+use Rattle.deduction.proofs.Standard.Codes.{code-sumOfSet}
 use Rattle.deduction.proofs.Terms.{termAt-build}
+use Places.{OnSheet, entry-places}
 use Synthesis.{Synth}
-use Analysis.{derivation-gained}
+use Analysis.{derivation-gained, derivation-sums}
 use Invariant.{Kept, kept-closed}
 pub use Derive.{reach-derivable}
 pub mod Within
@@ -31,15 +38,31 @@ pub exactness-from : (e : ℕ → Entry) (n : ℕ) → Downward e n → (G : ℕ
     → (g : List Term) → Derivation start g → (i : ℕ) → i < n → Holds g (termAt e i) → G i
 exactness-from e n down G closed start from g d = derivation-gained (termAt e) e n down (termAt-build e n down) G closed from d
 
+-- entries of G as a start
+start-made : (e : ℕ → Entry) (n : ℕ) (G : ℕ → Type 0) (start : List ℕ) → ((i : ℕ) → List·Memᴰ i start → (i < n) × G i)
+    → (u : Term) → List·Memᴰ u (map (termAt e) start) → Synth (termAt e) e n G (code u)
+start-made e n G start from u m =
+    let (j, q, s) = Memᴰ·of-map (termAt e) start m in
+    subst (λ (x : Term). Synth (termAt e) e n G (code x)) s (Synth.entry j (from j q .0) (from j q .1))
+
 pub exactness : (e : ℕ → Entry) (n : ℕ) → Downward e n → (G : ℕ → Type 0) → Closed (termAt e) n G
     → (start : List ℕ) → ((i : ℕ) → List·Memᴰ i start → (i < n) × G i)
     → (g : List Term) → Derivation (map (termAt e) start) g → (i : ℕ) → i < n → Holds g (termAt e i) → G i
-exactness e n down G closed start from = exactness-from e n down G closed (map (termAt e) start) made
+exactness e n down G closed start from = exactness-from e n down G closed (map (termAt e) start) (start-made e n G start from)
+
+-- the same for sums of entries' terms, which needn't be entries themselves: what a derivation holds of them are sums of entries of G
+pub exactness-sums : (e : ℕ → Entry) (n : ℕ) → Downward e n → (G : ℕ → Type 0) → Closed (termAt e) n G
+    → (start : List ℕ) → ((i : ℕ) → List·Memᴰ i start → (i < n) × G i)
+    → (g : List Term) → Derivation (map (termAt e) start) g → (w : ℕ) → Holds g (sumOfSet (termAt e) n w)
+    → (js : List ℕ) × ((j : ℕ) → List·Memᴰ j js → (j < n) × G j) × (sumOf (map (termAt e) js) ≈ sumOfSet (termAt e) n w)
+exactness-sums e n down G closed start from g d w h =
+    let (js, gained, q) = derivation-sums (termAt e) e n down (termAt-build e n down) G closed (start-made e n G start from) d (sumOfSet (termAt e) n w) h here in
+    (js, gained, by-code q)
   where
-    made : (u : Term) → List·Memᴰ u (map (termAt e) start) → Synth (termAt e) e n G (code u)
-    made u m =
-        let (j, q, s) = Memᴰ·of-map (termAt e) start m in
-        subst (λ (x : Term). Synth (termAt e) e n G (code x)) s (Synth.entry j (from j q .0) (from j q .1))
+    here : (p : ℕ) → member (code (sumOfSet (termAt e) n w)) p ≡ true → OnSheet (termAt e) e n p
+    here p m =
+        let (j, l, i, r) = xorOver-member (λ (x : ℕ). code (termAt e x)) n w p (ap (λ (x : ℕ). member x p) (sym (code-sumOfSet (termAt e) n w)) ∙ m) in
+        entry-places (termAt e) e n down (termAt-build e n down) j l p r
 
 -- what is reached within the sheet is closed
 reach-closed : (t : ℕ → Term) (n : ℕ) (start : List ℕ) → Closed t n (Reach t n start)

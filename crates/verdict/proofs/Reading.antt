@@ -1,11 +1,11 @@
 -- What a caller may conclude from the number that comes back, for every good sheet. Each statement is drawn from a field of `Meets` alone.
 -- Shown: `passes-derivable`; `reached-derivable`; `out-underivable`; `public-reached`, where the goal is a public atom; `out-exact`, `reached-exact`, with a
 -- budget of at least the number of entries; `stopped-used-up`, `steps-few`, `steps-fields`; what the used set and the remainder mean, `out-missing`,
--- `missing-ungained`, `missing-underivable`, `missing-suffices`, `reached-nothing`, `stopped-nothing`. Assumes nothing.
+-- `missing-ungained`, `missing-underivable`, `missing-suffices`, `missing-highest`, `reached-nothing`, `stopped-nothing`. Assumes nothing.
 use mathlib.Core.Path.{_≡_, refl, sym, ap, _∙_}
 use mathlib.Core.Bool.{true}
 use mathlib.Core.Logic.{_↔_}
-use mathlib.Core.List.{List, _∷_, List·Memᴰ}
+use mathlib.Core.List.{List, _∷_, List·Memᴰ, Memᴰ·append-left}
 use Prim.Native.Nat.{ℕ, _+_, _≤_, _<_}
 use native.Mathlib.Omega.{arith}
 use lib.ListN.{length}
@@ -13,15 +13,15 @@ use Rattle.bitset.specs.Set.{member}
 use Rattle.deduction.specs.Term.{Term}
 use Rattle.deduction.specs.Derivation.{Derivable, begin}
 use Rattle.deduction.specs.Entry.{Atom, termAt}
-use Rattle.deduction.specs.Standard.{sumOfSet}
+use Rattle.deduction.specs.Standard.{StandardSet, sumOfSet}
 use Rattle.deduction.specs.Step.{Step, Follows}
 use Rattle.deduction.specs.Course.{Verdict, derivable, underivable, exhausted, Course}
 use Rattle.deduction.specs.Missing.{Missing}
 use Rattle.deduction.proofs.Steps.{replay-derivable, sound-heads, trace-derivable}
-use Rattle.deduction.proofs.Steps.Course.{course-made, course-stopped, course-unique, head-gained}
+use Rattle.deduction.proofs.Steps.Course.{course-made, course-heads, course-stuck, course-stopped, course-unique, head-gained}
 use Rattle.deduction.proofs.Steps.Drawn.{drawn-known}
 use Rattle.deduction.proofs.Steps.Held.{held-newest, held-older, derivable-kept}
-use Rattle.deduction.proofs.Steps.Missing.{remainder-unknown, missing-enough}
+use Rattle.deduction.proofs.Steps.Missing.{remainder-unknown, missing-enough, missing-widest}
 use Rattle.deduction.proofs.Steps.Fields.{Fields, replays-fields}
 use Rattle.dag.specs.Sheet.{countOf, goalOf, traceLength}
 use Rattle.dag.specs.Record.{entryAt}
@@ -111,6 +111,17 @@ module _ {s : List ℕ} {cut budget : ℕ} {old out : List ℕ} {answer : ℕ} (
         missing-enough (entryAt s) (countOf s) (good s ok .downward) (out-missing .0) (lacked ∷ startTerms s cut)
         (λ j i. derivable-kept (held-older lacked) (termAt (entryAt s) j) (used-derivable within j i))
         (lacked ∷ startTerms s cut, begin, held-newest lacked)
+
+    -- no entry of it is the highest-numbered one in any derivable term that is a sum of standard entries, through terms of any size
+    pub missing-highest : cut ≤ traceLength s → (w j : ℕ) → StandardSet (entryAt s) (countOf s) w
+        → Derivable (startTerms s cut) (sumOfSet (termAt (entryAt s)) (countOf s) w) → member w j ≡ true → ((k : ℕ) → member w k ≡ true → k ≤ j)
+        → ¬ (member (remainderIn out) j ≡ true)
+    missing-highest within w j standards d =
+        let g = good s ok in
+        let heads = start-is-heads s cut budget ok within in
+        missing-widest (entryAt s) (countOf s) (g .downward) (gainedHeads s cut (m .count) out) (course-heads (entryAt s) (countOf s) (g .downward) (goalOf s) heads (m .course)) (goalOf s) (g .goal)
+        (startHeads s cut) (λ i c. Memᴰ·append-left _ c) (course-stuck (m .course) (is-out l h) .1) (out-missing .0) w j standards
+        (trace-derivable (entryAt s) (countOf s) (g .downward) (startEntries s cut) (start-below s ok cut within) (sumOfSet (termAt (entryAt s)) (countOf s) w) .0 d)
 
   -- "They are zero for the other verdicts"
   pub reached-nothing : answer < 2000 → (usedIn out ≡ 0) × (remainderIn out ≡ 0)

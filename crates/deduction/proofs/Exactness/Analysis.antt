@@ -2,10 +2,12 @@
 -- Shown: both parts of a pair in `Synth` are in it, and so is the message of an encryption in it whose key is in it; so every term held by a
 -- derivation whose start lies in `Synth` has its code there. Assumes nothing.
 use mathlib.Core.Path.{_≡_, refl, sym, ap, _∙_, subst}
+use mathlib.Core.Bool.{true}
 use mathlib.Core.Logic.{⊎-elim, by-cases}
 use mathlib.Core.List.{List, [], _∷_, List·Memᴰ, List·Memᴰ·head, List·Memᴰ·tail, List·Memᴰ·cases-cons}
 use Prim.Native.Nat.{ℕ, _<_}
 use native.Mathlib.Omega.{arith}
+use Rattle.bitset.specs.Set.{member}
 use Rattle.deduction.specs.Term.{Term, pair, enc, sumOf, _≈_}
 use Rattle.deduction.specs.Entry.{Entry, build, Downward}
 use Rattle.deduction.specs.Derivation.{Holds, Derivation, begin, first, second, decrypt, join, encrypt, sum}
@@ -13,7 +15,7 @@ use Rattle.deduction.proofs.Exactness.Within.{Closed}
 use Rattle.deduction.proofs.Coding.{bit, place, place-same, code, code-zero, code-pair, code-enc, code-sum, same-code}
 use Rattle.deduction.proofs.Pieces.{by-code}
 use Rattle.deduction.proofs.Exactness.Places.{OnSheet, place-code, onSheet-decidable, pair-at, enc-at}
-use Rattle.deduction.proofs.Exactness.Synthesis.{Synth, Made, synth-gained, synth-made}
+use Rattle.deduction.proofs.Exactness.Synthesis.{Synth, Made, Sums, synth-gained, synth-sums, synth-made}
 
 module _ (t : ℕ → Term) (e : ℕ → Entry) (n : ℕ) (G : ℕ → Type 0) where
   made-pair : {p : ℕ} (x y : ℕ) → Made t e n G p → p ≡ place 1 x y → Synth t e n G x × Synth t e n G y
@@ -82,3 +84,8 @@ module _ (t : ℕ → Term) (e : ℕ → Entry) (n : ℕ) (down : Downward e n) 
   -- what a derivation from terms of Synth holds of the entries is in G
   pub derivation-gained : {start g : List Term} → ((u : Term) → List·Memᴰ u start → Synth t e n G (code u)) → Derivation start g → (i : ℕ) → i < n → Holds g (t i) → G i
   derivation-gained from d i h k = synth-gained t e n down built G closed i h (held (derivation-synth from d) (t i) k)
+
+  -- what it holds with places on the sheet alone is a sum of entries of G
+  pub derivation-sums : {start g : List Term} → ((u : Term) → List·Memᴰ u start → Synth t e n G (code u)) → Derivation start g
+      → (u : Term) → Holds g u → ((p : ℕ) → member (code u) p ≡ true → OnSheet t e n p) → Sums t n G (code u)
+  derivation-sums from d u h here = synth-sums t e n down built G closed here (held (derivation-synth from d) u h)

@@ -1,7 +1,8 @@
 -- What can be put together from a set G of entries, closed under the six rules within the sheet.
 -- Defined: `Synth`, the codes made from G by sums, pairs and encryptions, and from atoms that aren't on the sheet; `Sums`, those made by
 -- sums alone; `Split`, a code as a sum of entries of G and of places that aren't on the sheet.
--- Shown: every code of `Synth` splits so, and an entry whose code is one of them is in G. Assumes nothing.
+-- Shown: every code of `Synth` splits so; one with places on the sheet alone is a sum of entries of G, and an entry whose code is one of them is in G. Assumes
+-- nothing.
 use mathlib.Core.Path.{_≡_, refl, sym, ap, ap₂, _∙_, subst}
 use mathlib.Core.Bool.{Bool, true, false}
 use mathlib.Core.Logic.{⊎-elim, by-cases}
@@ -33,7 +34,7 @@ pub data Made (t : ℕ → Term) (e : ℕ → Entry) (n : ℕ) (G : ℕ → Type
   encrypt : {x y : ℕ} → Synth t e n G x → Synth t e n G y → Made t e n G (place 2 x y)
 
 -- the sums of entries of G
-abbrev Sums : (ℕ → Term) → ℕ → (ℕ → Type 0) → ℕ → Type 0
+abbrev pub Sums : (ℕ → Term) → ℕ → (ℕ → Type 0) → ℕ → Type 0
 Sums t n G w = (js : List ℕ) × ((j : ℕ) → List·Memᴰ j js → (j < n) × G j) × (code (sumOf (map t js)) ≡ w)
 
 -- the places of `on` are on the sheet, those of `off` are not
@@ -158,6 +159,10 @@ module _ (t : ℕ → Term) (e : ℕ → Entry) (n : ℕ) (down : Downward e n) 
   -- an entry whose code can be put together is in G
   pub synth-gained : (i : ℕ) → i < n → Synth t e n G (code (t i)) → G i
   synth-gained i h s = split-gained i h (synth-split s)
+
+  -- a code that can be put together and has only places on the sheet is a sum of entries of G
+  pub synth-sums : {v : ℕ} → ((p : ℕ) → member v p ≡ true → OnSheet t e n p) → Synth t e n G v → Sums t n G v
+  synth-sums here s = split-sums here (synth-split s)
 
   -- a place off the sheet was made
   pub synth-made : (p : ℕ) → ¬ OnSheet t e n p → Synth t e n G (bit p) → Made t e n G p

@@ -99,6 +99,14 @@ module _ (e : ℕ → Entry) (n : ℕ) (down : Downward e n) (goal : ℕ) where
       let (q, z) = course-unique (heads-more e n down es s hs (x .0)) c (subst (λ (a : Step). Course (termAt e) n goal b (es ++ (a .head ∷ [])) rs w) (sym p) d) in
       (ap₂ (λ (a : Step) (l : List Step). a ∷ l) p q, z)
 
+  -- what is known at its end are heads
+  pub course-heads : {b : ℕ} {es : List ℕ} {ss : List Step} {v : Verdict} → Heads e n es → Course (termAt e) n goal b es ss v → Heads e n (es ++ heads ss)
+  course-heads {es = es} hs (Course.reached g) = subst (Heads e n) (sym (append-nil es)) hs
+  course-heads {es = es} hs (Course.stuck u f) = subst (Heads e n) (sym (append-nil es)) hs
+  course-heads {es = es} hs (Course.stopped u f) = subst (Heads e n) (sym (append-nil es)) hs
+  course-heads {es = es} hs (Course.more {s = s} {ss = ss} u x c) =
+      subst (Heads e n) (append-assoc es (s .head ∷ []) (heads ss)) (course-heads (heads-more e n down es s hs (x .0)) c)
+
   -- the goal is known exactly when its head is
   module _ (low : goal < n) (es : List ℕ) (hs : Heads e n es) where
     pub gained-head : Gained (termAt e) n goal es → List·Memᴰ (repAt e goal) es

@@ -1,21 +1,22 @@
 -- What is missing of an entry: the sum test finds it, and there is only one.
 -- Shown: `missing-found`, used set and remainder of the sum test are what is missing of an entry; `missing-is`, whatever is missing is these two sets; so
--- for any known heads there is exactly one such pair, `missing-exists` and `missing-unique`. No entry of the remainder is known (`remainder-unknown`); the remainder isn't empty where no step follows and the entry isn't known
+-- for any known heads there is exactly one such pair, `missing-exists` and `missing-unique`. The remainder is the lowest (`remainder-lowest`), and holds no highest-numbered
+-- entry of any derivable sum, where no step follows (`missing-widest`). No entry of the remainder is known (`remainder-unknown`); the remainder isn't empty where no step follows and the entry isn't known
 -- (`missing-some`); who can derive its sum can derive the entry's term (`missing-enough`). Assumes nothing.
 use mathlib.Core.Path.{_≡_, refl, sym, ap, ap₂, _∙_, subst}
-use mathlib.Core.Bool.{Bool, true, false, true≢false}
-use mathlib.Core.List.{List, [], _∷_, map, List·Memᴰ, List·Memᴰ·eq-of-singleton, Memᴰ·map}
-use Prim.Native.Nat.{ℕ, _<_}
+use mathlib.Core.Bool.{Bool, true, false, true≢false, xor}
+use mathlib.Core.List.{List, [], _∷_, map, List·Memᴰ, List·Memᴰ·head, List·Memᴰ·tail, List·Memᴰ·eq-of-singleton, Memᴰ·map, Memᴰ·of-map, Memᴰ·cast}
+use Prim.Native.Nat.{ℕ, _≤_, _<_}
 use native.Mathlib.Nat.{lt-of-lt-of-le}
 use native.Mathlib.Omega.{arith}
 use lib.Pow.{pow-pos}
-use lib.Bits.{bitXor, xor-zero-r}
+use lib.Bits.{bitXor, xor-zero-l, xor-zero-r}
 use borrow.Author.Tests.{eq-eqb}
 use Rattle.bitset.specs.Set.{member, leading}
-use Rattle.bitset.proofs.Laws.Member.{member-empty, member-single, member-le}
+use Rattle.bitset.proofs.Laws.Member.{member-empty, member-single, member-le, member-sum, xor-false}
 use Rattle.bitset.proofs.Laws.Leading.{leading-member, leading-top}
-use Rattle.bitset.proofs.Laws.Sums.{sum-move}
-use Rattle.deduction.specs.Term.{Term, _⊕_, sumOf, _≈_, unit, flip, then}
+use Rattle.bitset.proofs.Laws.Sums.{sum-cancel-right, sum-empty-same, sum-move}
+use Rattle.deduction.specs.Term.{Term, _⊕_, sumOf, _≈_, unit, in-sum, same, flip, then}
 use Rattle.deduction.specs.Derivation.{Holds, Derivable}
 use Rattle.deduction.specs.Entry.{Entry, termAt, Downward}
 use Rattle.deduction.specs.Standard.{xorAll, setAt, repAt, standard, StandardSet, sumOfSet}
@@ -25,10 +26,11 @@ use Rattle.deduction.specs.Missing.{Leads, Missing}
 use Rattle.deduction.proofs.Elimination.Spans.{Span, NoLeading, xorOver, Independent}
 use Rattle.deduction.proofs.Elimination.Sums.{xorOver-empty, xorOver-sum, xorOver-span, xorAll-span, span-xorAll}
 use Rattle.deduction.proofs.Elimination.Reduce.{reduce-both, reduce-none}
-use Rattle.deduction.proofs.Elimination.State.{Learnt, independent-learnt}
+use Rattle.deduction.proofs.Elimination.State.{Learnt, independent-learnt, span-zero}
 use Rattle.deduction.proofs.Elimination.{reduce-sum, used-independent, used-unique, remainder-no-leading, remainder-unique, row-span, row-nonempty}
 use Rattle.deduction.proofs.Coding.{code, code-sum, same-code}
 use Rattle.deduction.proofs.Pieces.{by-code}
+use Rattle.deduction.proofs.Exactness.{exactness-sums}
 use Rattle.deduction.proofs.Exactness.Derive.{derive-same, derive-sum, derive-set}
 use Rattle.deduction.proofs.Standard.{set-sum, rep-same, code-items, items-standard}
 use Rattle.deduction.proofs.Standard.Members.{members-le, standard-set}
@@ -37,7 +39,24 @@ use Rattle.deduction.proofs.Standard.Independent.{set-standard, sum-sta
 use Rattle.deduction.proofs.Standard.SumTest.{code-over, over-standard, sum-test-total}
 use Rattle.deduction.proofs.Steps.Head.{Heads, rep-is-head}
 use Rattle.deduction.proofs.Steps.Next.{knowledge-learnt}
+use Rattle.deduction.proofs.Steps.Closed.{closed}
 use Rattle.deduction.proofs.Steps.Drawn.{drawn-independent}
+
+-- two that don't differ are equal
+xor-none : (a b : Bool) → xor a b ≡ false → a ≡ b
+unfolding xor
+xor-none true true p = refl
+xor-none true false p = absurd (true≢false p)
+xor-none false true p = absurd (true≢false p)
+xor-none false false p = refl
+
+-- a sum of entries' terms is the sum of their heads' terms
+sum-heads : (e : ℕ → Entry) (n : ℕ) → Downward e n → (js : List ℕ) → ((j : ℕ) → List·Memᴰ j js → j < n)
+    → sumOf (map (termAt e) js) ≈ sumOf (map (termAt e) (map (repAt e) js))
+unfolding sumOf
+sum-heads e n down [] below = same
+sum-heads e n down (j ∷ js) below =
+    in-sum (flip (rep-same e n down j (below j (List·Memᴰ·head refl)))) (sum-heads e n down js (λ x c. below x (List·Memᴰ·tail c)))
 
 module _ (e : ℕ → Entry) (n : ℕ) (down : Downward e n) {es : List ℕ} where
   -- a known standard entry leads
@@ -129,6 +148,57 @@ module _ (e : ℕ → Entry) (n : ℕ) (down : Downward e n) {es : List ℕ} {k 
             remainder-unique l (setAt e i) (xorOver (setAt e) n u) r split (xorOver-span (setAt e) es n u (λ j h. independent-learnt (free j h))) no-leading,
           )
 
+      -- the remainder is the lowest of all: with any other set of standard entries that gives the entry's term together with known terms, the highest
+      -- entry in which the two differ stands in the other
+      pub remainder-lowest : (js : List ℕ) → ((j : ℕ) → List·Memᴰ j js → List·Memᴰ j es) → (x : ℕ) → StandardSet e n x
+          → termAt e i ≈ sumOf (map (termAt e) js) ⊕ sumOfSet (termAt e) n x → ¬ (x ≡ r)
+          → (j : ℕ) × (member x j ≡ true) × (member r j ≡ false) × ((h : ℕ) → j < h → member x h ≡ member r h)
+      remainder-lowest js known x standards total other = (leading d, in-x, not-in-r, above)
+        where
+          below : (j : ℕ) → List·Memᴰ j js → j < n
+          below j c = l .below j (known j c)
+
+          parts : setAt e i ≡ bitXor (xorAll (setAt e) js) x
+          parts =
+              standard-sets-same e n down (setAt e i) (bitXor (xorAll (setAt e) js) x) (set-standard e n down i low)
+              (sum-standard e n down (xorAll (setAt e) js) x (items-standard e n down js below) standards)
+              (sym (code-set e n down i low) ∙ same-code total ∙ code-sum (sumOf (map (termAt e) js)) (sumOfSet (termAt e) n x)
+              ∙ ap₂ bitXor (code-items e n down js below) (code-sumOfSet (termAt e) n x) ∙ sym (xorOver-sum (codeAt e) n (xorAll (setAt e) js) x))
+
+          -- both leave the same remainder
+          left : r ≡ reduce (k .rows) x .remainder
+          left =
+              missing-is .1 ∙ ap (λ (y : Reduced). y .remainder) (ap (reduce (k .rows)) parts ∙ reduce-both (k .rows) (xorAll (setAt e) js) x)
+              ∙ ap (λ (y : ℕ). bitXor y (reduce (k .rows) x .remainder)) (span-zero l (xorAll-span (setAt e) es js known)) ∙ xor-zero-l (reduce (k .rows) x .remainder)
+
+          -- so their difference is a sum of known sets
+          d : ℕ
+          d = bitXor x r
+
+          taken : ℕ
+          taken = xorOver (setAt e) n (reduce (k .rows) x .used)
+
+          differ : d ≡ taken
+          differ = ap (λ (y : ℕ). bitXor y r) (sym (ap (bitXor taken) left ∙ reduce-sum l x)) ∙ sum-cancel-right taken r
+
+          some : ¬ (d ≡ 0)
+          some z = other (sum-empty-same x r z)
+
+          not-in-r : member r (leading d) ≡ false
+          not-in-r =
+              no-leading d
+              (subst (Span (map (setAt e) es)) (sym differ) (xorOver-span (setAt e) es n (reduce (k .rows) x .used) (λ j c. independent-learnt (used-independent l x j c)))) some
+
+          in-x : member x (leading d) ≡ true
+          in-x = sym (xor-false (member x (leading d))) ∙ ap (xor (member x (leading d))) (sym not-in-r) ∙ sym (member-sum x r (leading d)) ∙ leading-member d (omega (arith, some))
+
+          above : (h : ℕ) → leading d < h → member x h ≡ member r h
+          above h c = go (member d h) refl
+            where
+              go : (b : Bool) → member d h ≡ b → member x h ≡ member r h
+              go true p = absurd (let q = leading-top d h p in omega arith)
+              go false p = xor-none (member x h) (member r h) (sym (member-sum x r h) ∙ p)
+
       -- where no step follows and the entry isn't known, something remains
       pub missing-some : ¬ Holds (map (termAt e) es) (termAt e i) → ((s : Step) → ¬ Follows (termAt e) n es s) → ¬ (r ≡ 0)
       missing-some unknown stuck z =
@@ -171,3 +241,26 @@ module _ (e : ℕ → Entry) (n : ℕ) (down : Downward e n) (es : List ℕ) (hs
       let (p, q) = missing-is e n down l i low m in
       let (p′, q′) = missing-is e n down l i low m′ in
       (p ∙ sym p′, q ∙ sym q′)
+
+  -- where no step follows from heads that have the start, every derivable term that is a sum of standard entries is a sum of known terms: so the
+  -- remainder holds no highest-numbered entry of any of them, whatever terms the derivation goes through
+  module _ (start : List ℕ) (from : (j : ℕ) → List·Memᴰ j start → List·Memᴰ j es) (stuck : (s : Step) → ¬ Follows (termAt e) n es s) where
+    derivable-leads : (w j : ℕ) → StandardSet e n w → Derivable (map (termAt e) start) (sumOfSet (termAt e) n w)
+        → member w j ≡ true → ((h : ℕ) → member w h ≡ true → h ≤ j) → Leads e n es j
+    derivable-leads w j standards (g, d, held) inside highest =
+        let (js, known, sum) =
+        exactness-sums e n down (λ x. List·Memᴰ (repAt e x) es) (closed e n down es hs stuck) start
+        (λ x c. (hs x (from x c) .0, Memᴰ·cast (hs x (from x c) .1) (from x c))) g d w held in
+        record {
+          items = map (repAt e) js;
+          known = λ x c. let (y, p, q) = Memᴰ·of-map (repAt e) js c in subst (λ (z : ℕ). List·Memᴰ z es) q (known y p .1);
+          set = w;
+          standards = standards;
+          same = then (flip (sum-heads e n down js (λ x c. known x c .0))) sum;
+          inside = inside;
+          highest = highest;
+        }
+
+    pub missing-widest : {u r : ℕ} → Missing e n es i u r → (w j : ℕ) → StandardSet e n w → Derivable (map (termAt e) start) (sumOfSet (termAt e) n w)
+        → member w j ≡ true → ((h : ℕ) → member w h ≡ true → h ≤ j) → ¬ (member r j ≡ true)
+    missing-widest m w j standards d inside highest h = m .bare j h (derivable-leads w j standards d inside highest)
