@@ -1,6 +1,7 @@
 -- Reading order: terms and their equality, what an intruder can derive, the terms of a sheet's entries, their sets of standard entries and their
--- representatives, the steps in their order, the course of the work, the replay, and what is missing of an entry. Then the elimination that decides sums and the run: what the program
--- computes, which nobody has to believe for a verdict (`run-course`, proofs/Steps/Course.antt).
+-- representatives, the steps in their order, the course of the work, the replay, and what is missing of an entry. Then the elimination that decides
+-- sums and the run: what the program computes, which nobody has to believe for a verdict (`run-course`, proofs/Steps/Course.antt;
+-- `missing-found`, proofs/Steps/Missing.antt).
 pub mod Term
 pub mod Derivation
 pub mod Entry

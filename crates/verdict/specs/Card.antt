@@ -1,5 +1,6 @@
 -- The starred cases of the flight card, and cases of document 02: sheet, cut and budget; the answer, the number of known entries, the used set, the
--- remainder, and the rungs. The buffer is as long as the budget needs. Document 02, E2: "Sheet A and the other cases that use atoms now take 1,000 plus their old numbers, so their printed results hold."
+-- remainder, and the rungs. The buffer is as long as the budget needs. Document 02, E2: "Sheet A and the other cases that use atoms now take 1,000 plus
+-- their old numbers, so their printed results hold."
 -- Defined: `rows`, the table, and `Yields`, what a row claims of the definitions. That every row holds is one theorem (proofs/Card.antt).
 use Prim.Native.Nat.{ℕ, _+_, _*_}
 use mathlib.Core.Path.{_≡_}
@@ -150,8 +151,8 @@ rows =
     ∷ case sheetTwice 0 0 1000 1 0 0 []
     ∷ case sheetMasked 0 256 2000 1 0 8 []
     ∷ case sheetMasked 3 256 1001 5 0 0 (unmaskStep ∷ [])
-    -- document 02, E5: of entry 1 the sum 2 is used and entry 0 is missing, and nothing is used before 2 is heard; the same of another entry with its term; a
-    -- highest-numbered entry of a sum below the goal's own; of the terms that are a sum of earlier ones none is used
+    -- document 02, E5: of entry 1 the sum 2 is used and entry 0 is missing, and nothing is used before 2 is heard; the same of another entry with its
+    -- term; a highest-numbered entry of a sum below the goal's own; of the terms that are a sum of earlier ones none is used
     ∷ case sheetPad 0 256 2000 0 0 2 []
     ∷ case sheetPad 1 256 2000 1 4 1 []
     ∷ case sheetOther 1 256 2000 1 4 1 []

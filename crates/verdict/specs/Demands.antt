@@ -1,8 +1,8 @@
 -- The demands on a verdict call, as a statement about whole derivations (document 01, "Rungs", "Ladders and their replay"). Reach, replay and the order
 -- of the rungs start from one list, `startEntries` (`start/specs/Start.antt`): the public atoms on the sheet, then the messages before the cut.
--- Defined: `Passes`, the replay of the rungs that are read back from the returned bytes; `Meets`, demands 2 and 3 of an answer and its buffer, the stop
--- rule, what is missing and every byte; `Demanded`, the whole promise, for refused calls too. Nothing here names the search, the run or the elimination, and the promise
--- alone determines the answer and every byte (`demands-equations`, proofs/Unique.antt).
+-- Defined: `Passes`, the replay of the rungs that are read back from the returned bytes; `Meets`, demands 2 and 3 of an answer and its buffer, the
+-- stop rule, what is missing and every byte; `Demanded`, the whole promise, for refused calls too. Nothing here names the search, the run or the
+-- elimination, and the promise alone determines the answer and every byte (`demands-equations`, proofs/Unique.antt).
 use Prim.Native.Nat.{ℕ, _+_, _*_, _≤_}
 use mathlib.Core.Path.{_≡_}
 use mathlib.Core.Bool.{true}

@@ -1,5 +1,5 @@
--- Reading order: the output buffer; which calls are refused; the demands, as one statement about whole derivations; the same as equations; the numbers of answers;
--- the starred cases. Inner: what is decided. What is gained at the start stands in crate `start`.
+-- Reading order: the output buffer; which calls are refused; the demands, as one statement about whole derivations; the same as equations; the
+-- numbers of answers; the starred cases. Inner: what is decided. What is gained at the start stands in crate `start`.
 pub mod Buffer
 pub mod Refused
 pub mod Demands

@@ -98,9 +98,9 @@ fn refused(sheet: &[u8], cut: u32, budget: u32, space: usize) -> Refusal
     Refusal::Nothing
 }
 
-// The verdict call. A refusal leaves every byte of out; otherwise out gets the known set, what is missing, 40 bytes a step, and keeps its later bytes.
-// Only as many bytes as the budget needs are lent to what follows. (As it calls itself, the compiler keeps the large tables of `judged` out of its frame: a
-// refused call needs little stack.)
+// The verdict call. A refusal leaves every byte of out; otherwise out gets the known set, what is missing, 40 bytes a step, and keeps its later
+// bytes. Only as many bytes as the budget needs are lent to what follows. (As it calls itself, the compiler keeps the large tables of `judged` out
+// of its frame: a refused call needs little stack.)
 pub fn verdict(sheet: &[u8], cut: u32, budget: u32, out: &mut [u8]) -> Answer
     ensures answer { λ r. ⌜ numberOf r ≡ answerOf (now (sheet .entry)) cut budget (length (now (out .entry))) ⌝ }
     ensures few { λ r. ⌜ madeIn r ≤ 256 ⌝ }
