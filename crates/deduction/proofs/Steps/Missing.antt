@@ -1,8 +1,8 @@
 -- What is missing of an entry: the sum test finds it, and there is only one.
--- Shown: `missing-found`, used set and remainder of the sum test are what is missing of an entry; `missing-is`, whatever is missing is these two sets; so
--- for any known heads there is exactly one such pair, `missing-exists` and `missing-unique`. The remainder is the lowest (`remainder-lowest`), and holds no highest-numbered
--- entry of any derivable sum, where no step follows (`missing-widest`). No entry of the remainder is known (`remainder-unknown`); the remainder isn't empty where no step follows and the entry isn't known
--- (`missing-some`); who can derive its sum can derive the entry's term (`missing-enough`). Assumes nothing.
+-- Shown: `missing-found`, used set and remainder of the sum test are what is missing of an entry; `missing-is`, whatever is missing is these two sets;
+-- so for any known heads there is exactly one such pair, `missing-exists` and `missing-unique`. The remainder is the lowest (`remainder-lowest`). None
+-- of its entries is known (`remainder-unknown`); who can derive its sum can derive the entry's term (`missing-enough`). Where no step follows it isn't
+-- empty, unless the entry is known (`missing-some`), and it holds no highest-numbered entry of any derivable sum (`missing-widest`). Assumes nothing.
 use mathlib.Core.Path.{_≡_, refl, sym, ap, ap₂, _∙_, subst}
 use mathlib.Core.Bool.{Bool, true, false, true≢false, xor}
 use mathlib.Core.List.{List, [], _∷_, map, List·Memᴰ, List·Memᴰ·head, List·Memᴰ·tail, List·Memᴰ·eq-of-singleton, Memᴰ·map, Memᴰ·of-map, Memᴰ·cast}
