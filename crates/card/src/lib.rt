@@ -11,7 +11,7 @@ ghost use Rattle.card.specs.Card.{stepText, stepsText, cutText, isReache
 ghost use Rattle.line.specs.Buffer.{Appended};
 ghost use Rattle.card.specs.Buffer.{Printed};
 use dag::sheet;
-use verdict::front::FRONT;
+use verdict::FRONT;
 
 // The place after what was printed of a cut, and whether the next cut is to be printed.
 struct Shown {

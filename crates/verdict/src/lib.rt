@@ -11,13 +11,14 @@ ghost use Rattle.verdict.specs.Demands.{Demanded};
 ghost use Rattle.verdict.specs.Answer.{answerOf, bufferOf};
 ghost use Rattle.verdict.specs.Code.{numberOf, madeIn};
 ghost use Rattle.verdict.specs.Inner.Decide.{Decided};
-use crate::front::FRONT;
 use dag::Refusal;
 use dag::sheet;
 use derive::run::Ended;
 use derive::run::Verdict;
 
-pub mod front;
+mod front;
+
+pub use front::FRONT;
 
 // The answer: refused, or the verdict with the number of steps made (document 01: reached, out of reach, stopped).
 pub enum Answer {
