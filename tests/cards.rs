@@ -41,7 +41,7 @@ pub fn large(r: &mut Random) -> Vec<u8> {
     let n = 200 + r.below(57);
     let entries: Vec<Entry> = (0..n)
         .map(|i| match (i, r.below(4)) {
-            (0, _) | (_, 0) => Entry::Atom(if r.below(8) == 0 { r.below(256) } else { 256 + r.below(65280) } as u16),
+            (0, _) | (_, 0) => Entry::Atom(if r.below(8) == 0 { r.below(256) } else { 256 + r.below(65280) } as u32),
             (_, 1) => Entry::Pair(r.below(i) as u16, r.below(i) as u16),
             (_, 2) => Entry::Seal(r.below(i) as u16, r.below(i) as u16),
             _ => Entry::Sum((0..r.below(65)).map(|_| r.below(i) as u16).collect()),

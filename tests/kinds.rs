@@ -7,7 +7,7 @@ pub type Parts = (Vec<Entry>, Vec<u16>, u16);
 
 // The atom with this number and 1,000.
 fn atom(i: u16) -> Entry {
-    Entry::Atom(1000 + i)
+    Entry::Atom(1000 + u32::from(i))
 }
 
 // A chain of pairs over zero: one new term a step, n steps.
@@ -62,7 +62,7 @@ pub fn stuck(n: usize) -> Parts {
 // Half of the entries on the hull label, then sums of one of them with a secret, all heard: each secret is a sum step that draws on the label.
 pub fn names(n: usize) -> Parts {
     let (half, quarter) = (n as u16 / 2, n as u16 / 4);
-    let mut entries: Vec<Entry> = (0..half).map(Entry::Atom).collect();
+    let mut entries: Vec<Entry> = (0..half).map(|i| Entry::Atom(u32::from(i))).collect();
     entries.extend((0..quarter).map(atom));
     entries.extend((0..quarter).map(|i| Entry::Sum(vec![i, half + i])));
     (entries, (half + quarter..half + 2 * quarter).collect(), half + quarter - 1)
@@ -99,7 +99,7 @@ pub fn labelled(n: usize, seed: u64) -> Parts {
     let (mut entries, heard, goal) = drawn(n, seed);
     for i in (0..n).step_by(3) {
         if let Entry::Atom(a) = &mut entries[i] {
-            *a = i as u16 % 16;
+            *a = i as u32 % 16;
         }
     }
     (entries, heard, goal)
@@ -110,7 +110,7 @@ pub fn labelled(n: usize, seed: u64) -> Parts {
 pub fn lacking(n: usize, seed: u64) -> Parts {
     let mut r = Random((n as u64) << 32 | seed << 16 | 0x5eed);
     let (half, all) = (n as u64 / 2, n as u64);
-    let mut entries: Vec<Entry> = (0..half as u16).map(|i| if r.below(8) == 0 { Entry::Atom(i) } else { atom(i) }).collect();
+    let mut entries: Vec<Entry> = (0..half as u16).map(|i| if r.below(8) == 0 { Entry::Atom(u32::from(i)) } else { atom(i) }).collect();
     entries.extend((half..all).map(|_| Entry::Sum((0..2 + r.below(4)).map(|_| r.below(half) as u16).collect())));
     let heard = (0..n / 3).map(|_| (half + r.below(all - half)) as u16).collect();
     (entries, heard, r.below(all) as u16)

@@ -48,6 +48,7 @@ fn tables(s: &[u8]) -> Tables {
         let (at, len) = (number(10 + 4 * i), number(12 + 4 * i));
         let kind = s[at] as u64;
         let key = match kind {
+            1 if len == 5 => (1 << 32) + (number(at + 1) as u64) * 65536 + number(at + 3) as u64,
             1 => (1 << 32) + number(at + 1) as u64,
             2 | 3 => (kind << 32) + (t.reps[number(at + 1)] as u64) * 256 + t.reps[number(at + 3)] as u64,
             _ => 0,

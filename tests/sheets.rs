@@ -6,7 +6,8 @@ pub const FRONT: usize = 96;
 #[derive(Clone, Debug)]
 pub enum Entry {
     Zero,
-    Atom(u16),
+    Atom(u32), // in the short record where the number fits
+    Long(u32), // an atom in the long record, whatever its number
     Pair(u16, u16),
     Seal(u16, u16),
     Sum(Vec<u16>),
@@ -23,7 +24,8 @@ pub fn record(e: &Entry) -> Vec<u8> {
     };
     match e {
         Entry::Zero => vec![0],
-        Entry::Atom(a) => numbers(1, &[*a]),
+        Entry::Atom(a) if *a < 65536 => numbers(1, &[*a as u16]),
+        Entry::Atom(a) | Entry::Long(a) => numbers(1, &[(*a >> 16) as u16, *a as u16]),
         Entry::Pair(l, r) => numbers(2, &[*l, *r]),
         Entry::Seal(m, k) => numbers(3, &[*m, *k]),
         Entry::Sum(items) => numbers(4, items),
@@ -67,8 +69,9 @@ impl Random {
     }
 }
 
-// A few atom numbers: two of atoms on the hull label, 0 and 255, and four of others, two of which have a byte of the first two.
-pub const ATOMS: [u16; 6] = [0, 255, 256, 65280, 1000, 1001];
+// A few atom numbers: two of atoms on the hull label, 0 and 255, and others that have bytes of these: 256, 65,280 and 65,536. The last two that fit
+// a short record or a long one, and two more.
+pub const ATOMS: [u32; 9] = [0, 255, 256, 65280, 1000, 1001, 65535, 65536, 4294967295];
 
 // A good sheet's entries and trace: at most `most` entries over a few atoms, so that equal terms and cancelling sums are common.
 pub fn random_entries(r: &mut Random, most: u64) -> (Vec<Entry>, Vec<u16>, u16) {
@@ -76,18 +79,19 @@ pub fn random_entries(r: &mut Random, most: u64) -> (Vec<Entry>, Vec<u16>, u16) 
 }
 
 // The same over these atoms.
-pub fn entries_over(r: &mut Random, most: u64, atoms: &[u16]) -> (Vec<Entry>, Vec<u16>, u16) {
+pub fn entries_over(r: &mut Random, most: u64, atoms: &[u32]) -> (Vec<Entry>, Vec<u16>, u16) {
     let n = 1 + r.below(most);
     let entries = (0..n)
         .map(|i| {
-            let atom = atoms[r.below(atoms.len() as u64) as usize];
+            let number = atoms[r.below(atoms.len() as u64) as usize];
+            let atom = if r.below(3) == 0 { Entry::Long(number) } else { Entry::Atom(number) };
             if i == 0 {
-                return if r.below(4) == 0 { Entry::Zero } else { Entry::Atom(atom) };
+                return if r.below(4) == 0 { Entry::Zero } else { atom };
             }
             let (a, b) = (r.below(i) as u16, r.below(i) as u16);
             match r.below(10) {
                 0 => Entry::Zero,
-                1..=2 => Entry::Atom(atom),
+                1..=2 => atom,
                 3..=4 => Entry::Pair(a, b),
                 5..=6 => Entry::Seal(a, b),
                 _ => Entry::Sum((0..r.below(5)).map(|_| r.below(i) as u16).collect()),
@@ -118,7 +122,7 @@ pub fn damage(r: &mut Random, mut s: Vec<u8>) -> Vec<u8> {
 // Document 01's table, rows 1 to 7, read a second time: row by row, with early answers and 64-bit numbers.
 pub fn refusal(s: &[u8]) -> u32 {
     let number = |i: usize| (s[i] as usize) * 256 + s[i + 1] as usize;
-    if s.len() < 10 || s.len() > 34444 || &s[..4] != b"SHT1" {
+    if s.len() < 10 || s.len() > 34446 || &s[..4] != b"SHT1" {
         return 1;
     }
     let (n, h, goal) = (number(4), number(6), number(8));
@@ -144,7 +148,7 @@ pub fn refusal(s: &[u8]) -> u32 {
         let (offset, len) = (number(10 + 4 * i), number(12 + 4 * i));
         let good = match s[offset] {
             0 => len == 1,
-            1 => len == 3,
+            1 => len == 3 || len == 5,
             2 | 3 => len == 5,
             4 => len % 2 == 1 && (len - 1) / 2 <= 64,
             _ => false,
