@@ -121,10 +121,11 @@ fn key_of(r: &[u8], reps: &[u8; 256]) -> u64
     if 3 < kind {
         return 0;
     }
-    let first = record::first(r);
     if kind == 1 {
-        return 4294967296 + (first as u64);
+        let number = record::atom(r);
+        return 4294967296 + (number as u64);
     }
+    let first = record::first(r);
     let second = record::second(r);
     key(kind, rep_in(reps, first as u8), rep_in(reps, second as u8))
 }

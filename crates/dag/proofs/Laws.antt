@@ -4,5 +4,7 @@ pub mod Refusal
 pub mod Pairs
 pub mod Parts
 pub mod Table
+pub mod Passed
 pub mod Good
+pub mod Longest
 pub mod Code

@@ -1,7 +1,7 @@
 -- What a record says: its kind, the lengths that a kind has, and the entry that it is.
--- Defined: `kindOf`, `fits`, `decode`, `entryAt`.
+-- Defined: `kindOf`, `fits`, `atomOf`, `decode`, `entryAt`.
 use Prim.Native.Nat.{ℕ, zero, suc, _+_, _-_, _*_, _/_, _%_}
-use mathlib.Core.Bool.{Bool, false, _&&_}
+use mathlib.Core.Bool.{Bool, false, cond, _&&_, _||_}
 use mathlib.Core.List.{List}
 use lib.Dec.{eqb, leb}
 use lib.ListN.{length, getD}
@@ -12,14 +12,19 @@ use Rattle.dag.specs.Sheet.{numberAt, recordAt, listed}
 abbrev pub kindOf : List ℕ → ℕ
 kindOf r = getD r 0 0
 
--- "Lengths are thus 1, 3, 5, 5 and 1 + 2k for k items" of kinds 0 to 4, a sum having "0 to 64 items"; no other kind has a length
+-- "Lengths are thus 1, 3, 5, 5 and 1 + 2k for k items" of kinds 0 to 4, a sum having "0 to 64 items"; no other kind has a length. Document 02, E10:
+-- "An atom record may now have length 5 .. The old length stays good"
 unfoldable pub fits : ℕ → ℕ → Bool
 fits zero len = eqb len 1
-fits (suc zero) len = eqb len 3
+fits (suc zero) len = eqb len 3 || eqb len 5
 fits (suc (suc zero)) len = eqb len 5
 fits (suc (suc (suc zero))) len = eqb len 5
 fits (suc (suc (suc (suc zero)))) len = eqb (len % 2) 1 && leb len 129
 fits (suc (suc (suc (suc (suc k))))) len = false
+
+-- an atom's number, whole: "length 5 with a 4-byte number, high byte first"; in the old length its 2 bytes
+unfoldable pub atomOf : List ℕ → ℕ
+atomOf r = cond (eqb (length r) 5) (numberAt r 1 * 65536 + numberAt r 3) (numberAt r 1)
 
 -- the number of a sum's items, and the items
 abbrev pub itemCount : List ℕ → ℕ
@@ -31,7 +36,7 @@ itemAt r j = numberAt r (1 + 2 * j)
 -- "A record is its kind byte and then: nothing (zero); the atom's number; left and right; message and key; or the sum's items"
 unfoldable pub decodeAs : ℕ → List ℕ → Entry
 decodeAs zero r = Zero
-decodeAs (suc zero) r = Atom (numberAt r 1)
+decodeAs (suc zero) r = Atom (atomOf r)
 decodeAs (suc (suc zero)) r = Pair (numberAt r 1) (numberAt r 3)
 decodeAs (suc (suc (suc zero))) r = Enc (numberAt r 1) (numberAt r 3)
 decodeAs (suc (suc (suc (suc k)))) r = Sum (listed (itemAt r) (itemCount r))

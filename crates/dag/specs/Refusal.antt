@@ -33,9 +33,13 @@ unfoldable pub anyFrom : ℕ → List ℕ → Bool
 anyFrom i [] = false
 anyFrom i (j ∷ js) = leb i j || anyFrom i js
 
--- 1 no sheet: "under 10 bytes, over 34,444, or the four letters differ"
+-- document 02, E10: "The longest sheet is 34,446 bytes, and refusal 1 moves with it"
+abbrev pub longest : ℕ
+longest = 34446
+
+-- 1 no sheet: "under 10 bytes, over 34,444, or the four letters differ", the second number now that of the longest sheet
 unfoldable pub noSheet : List ℕ → ℕ
-noSheet s = when (ltb (length s) 10 || (ltb 34444 (length s) || not (equal (take 4 s) letters))) 1
+noSheet s = when (ltb (length s) 10 || (ltb longest (length s) || not (equal (take 4 s) letters))) 1
 
 -- 2 bad count: "n, h or goal outside its range": n 1 to 256, h 0 to 256, goal 0 to n - 1
 unfoldable pub badCount : List ℕ → ℕ

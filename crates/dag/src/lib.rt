@@ -8,6 +8,8 @@ mod faults;
 pub mod record;
 pub mod sheet;
 
+pub use faults::LONGEST;
+
 // Document 01's ten refusals, and none.
 pub enum Refusal {
     Nothing,

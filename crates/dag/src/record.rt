@@ -1,7 +1,7 @@
 // What a record's bytes say.
 ghost use mathlib.Core.Path.{_≡_};
 ghost use Rattle.dag.specs.Sheet.{numberAt};
-ghost use Rattle.dag.specs.Record.{kindOf, fits, itemCount};
+ghost use Rattle.dag.specs.Record.{kindOf, fits, atomOf, itemCount};
 use crate::sheet;
 
 // The kind byte; 0 where there is none.
@@ -14,6 +14,16 @@ pub fn kind(r: &[u8]) -> u8
     r[0]
 }
 
+// Do atoms have records of this length? The short record has a number of two bytes, the long one a number of four.
+fn atom_has_length(len: usize) -> bool
+    ensures { λ b. ⌜ b ≡ fits 1 len ⌝ }
+{
+    if len == 3 {
+        return true;
+    }
+    len == 5
+}
+
 // Does the kind have records of this length?
 pub fn has_length(kind: u8, len: usize) -> bool
     ensures { λ b. ⌜ b ≡ fits kind len ⌝ }
@@ -22,7 +32,7 @@ pub fn has_length(kind: u8, len: usize) -> bool
         return len == 1;
     }
     if kind == 1 {
-        return len == 3;
+        return atom_has_length(len);
     }
     if kind == 2 {
         return len == 5;
@@ -39,14 +49,26 @@ pub fn has_length(kind: u8, len: usize) -> bool
     false
 }
 
-// The number after the kind byte: an atom's number, a pair's left, an encryption's message.
+// An atom's number, whole: the four bytes after the kind byte in a long record, else the two.
+pub fn atom(r: &[u8]) -> u32
+    ensures { λ x. ⌜ x ≡ atomOf (now (r .entry)) ⌝ }
+{
+    let high = first(r);
+    if r.len() == 5 {
+        let low = second(r);
+        return (high as u32) * 65536 + (low as u32);
+    }
+    high as u32
+}
+
+// The number after the kind byte: a pair's left, an encryption's message, the upper half of a long atom's number or the whole of a short one's.
 pub fn first(r: &[u8]) -> u16
     ensures { λ x. ⌜ x ≡ numberAt (now (r .entry)) 1 ⌝ }
 {
     sheet::number_at(r, 1)
 }
 
-// The number after that: a pair's right, an encryption's key.
+// The number after that: a pair's right, an encryption's key, the lower half of a long atom's number.
 pub fn second(r: &[u8]) -> u16
     ensures { λ x. ⌜ x ≡ numberAt (now (r .entry)) 3 ⌝ }
 {

@@ -1,6 +1,6 @@
 -- What a reader may conclude of the start.
 -- Shown: `atom-head`, an atom's head is the same atom; `public-every`, the head of every public atom on the sheet is listed; `public-only`, nothing else
--- is; `public-rising`, in rising entry order, so none twice; `public-start`, `public-gained`, at every cut its head and its term are gained at the
+-- is; `public-rising`, in rising entry order, so none twice; `public-number`, the whole number decides, in a short record and a long one; `public-start`, `public-gained`, at every cut its head and its term are gained at the
 -- start; `start-without`, a sheet without public atoms starts from its heard messages alone. Assumes nothing.
 use mathlib.Core.Path.{_≡_, refl, sym, ap, ap₂, _∙_, subst}
 use mathlib.Core.Bool.{Bool, true, false, true≢false, _&&_, cond}
@@ -10,25 +10,22 @@ use Prim.Native.Nat.{ℕ, zero, suc, _<_}
 use native.Mathlib.Decide.{decLt}
 use native.Mathlib.Omega.{arith}
 use borrow.Author.Tests.{eqb-true, eq-eqb, lt-ltb}
-use lib.Dec.{eqb}
+use lib.Dec.{eqb, ltb}
 use lib.ListN.{length, getD, length-append, List·getD-append}
 use lib.Seq.{getD-append-seam}
 use Rattle.deduction.specs.Term.{Term, 𝟎, atom}
 use Rattle.deduction.specs.Entry.{Entry, Zero, Atom, Pair, Enc, Sum, Downward, build, terms, termAt}
 use Rattle.deduction.specs.Standard.{Shape, shape, setAt, repAt}
 use Rattle.deduction.proofs.Standard.{rep-le, rep-rep}
-use Rattle.deduction.proofs.Standard.First.{shapeAt, first-shape}
+use Rattle.deduction.proofs.Standard.First.{both-true, shapeAt, first-shape}
 use Rattle.deduction.proofs.Standard.Members.{rep-first}
 use Rattle.dag.specs.Sheet.{countOf, traceOf}
-use Rattle.dag.specs.Record.{entryAt}
+use Rattle.dag.specs.Record.{kindOf, atomOf, decode, entryAt}
 use Rattle.dag.specs.Refusal.{refusal}
 use Rattle.dag.proofs.Laws.Good.{good}
+use Rattle.dag.proofs.Atoms.{kind-atom}
 use Rattle.start.proofs.Laws.Lists.{getD-member}
 use Rattle.start.specs.Start.{isPublic, publicHeads, startEntries, startHeads, startTerms}
-
-both : (a b : Bool) → (a && b) ≡ true → (a ≡ true) × (b ≡ true)
-both true b p = (refl, p)
-both false b p = absurd (true≢false (sym p))
 
 -- the shape of an atom names it
 shape-atom : (s : ℕ → ℕ) (d : Entry) → shape s d .kind ≡ 1 → d ≡ Atom (shape s d .left)
@@ -82,7 +79,7 @@ module _ (e : ℕ → Entry) where
       last false p q = absurd (List·Memᴰ·not-nil q)
       last true p q =
           let own = List·Memᴰ·eq-of-singleton q in
-          let r = both (isPublic (e n)) (eqb (repAt e n) n) p in
+          let r = both-true (isPublic (e n)) (eqb (repAt e n) n) p in
           subst (λ (x : ℕ). (x < suc n) × (isPublic (e x) ≡ true) × (repAt e x ≡ x)) (sym own) (omega arith, r .0, eqb-true (repAt e n) n (r .1))
 
   listed-head : (n i : ℕ) → i < n → isPublic (e i) ≡ true → repAt e i ≡ i → List·Memᴰ i (publicHeads e n)
@@ -132,6 +129,11 @@ module _ (e : ℕ → Entry) where
       last rising false q =
           subst (λ (es : List ℕ). getD es k 0 < getD es l 0) (sym (append-nil (publicHeads e n)))
           (rising k l h (subst (λ (es : List ℕ). l < length es) (append-nil (publicHeads e n)) q))
+
+-- whatever the length of its record, an atom is public exactly when its whole number is below 256
+pub public-number : (r : List ℕ) → kindOf r ≡ 1 → isPublic (decode r) ≡ ltb (atomOf r) 256
+unfolding isPublic
+public-number r p = ap isPublic (kind-atom r p)
 
 module _ (s : List ℕ) (ok : refusal s ≡ 0) where
   -- "A stranger knows them without listening": at every cut, 0 too, its head is gained

@@ -20,10 +20,10 @@ use knowledge::Knowledge;
 fn is_public(key: u64) -> bool
     ensures { λ r. ⌜ r ≡ publicKey key ⌝ }
 {
-    if key < 4294967296 {
-        return false;
+    if key / 4294967296 == 1 {
+        return key % 4294967296 < 256;
     }
-    key < 4294967296 + 256
+    false
 }
 
 // Is entry i a public atom and the representative of its term?

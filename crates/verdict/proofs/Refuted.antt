@@ -24,7 +24,7 @@ use Rattle.deduction.proofs.Distinct.{enc-parts}
 use Rattle.deduction.proofs.Steps.Replay.{endState, end-exact, replays-end}
 use Rattle.deduction.proofs.Steps.Fields.{right-decrypt}
 use Rattle.dag.specs.Sheet.{numberAt, traceLength, beginAt, listed}
-use Rattle.dag.specs.Record.{entryAt, fits, decodeAs}
+use Rattle.dag.specs.Record.{entryAt, fits, atomOf, decodeAs}
 use Rattle.dag.specs.Refusal.{when, orElse, first, equal, anyFrom, noSheet, badCount, shortList, badPair, badPairs, badRecord, badRecords, notListed, refusal}
 use Rattle.dag.proofs.Laws.Good.{good}
 use Rattle.start.specs.Start.{isPublic, publicHeads, startEntries, startHeads, startTerms}
@@ -47,7 +47,7 @@ runs : Runs sheetA 3 256 (2 ∷ 4 ∷ 1 ∷ []) (sumStep ∷ openStep ∷ []) de
     × Runs sheetA 2 256 (2 ∷ 4 ∷ []) [] underivable × Runs sheetZ 0 256 [] (step 1 6 unused unused 0 ∷ []) underivable
     × Runs sheet255 0 0 (0 ∷ []) [] derivable × Runs sheet256 0 0 [] [] underivable × Runs sheetTwice 0 0 (0 ∷ []) [] derivable
     × Runs sheetMasked 3 256 (1 ∷ 0 ∷ 2 ∷ 4 ∷ []) (unmaskStep ∷ []) derivable
-unfolding outcomeOf refusal noSheet badCount shortList badPair badPairs badRecord badRecords notListed when orElse first equal anyFrom fits decodeAs numberAt beginAt listed parts shape alike least xorAll firstAlike standardSet buildSet sets setAt repAt isPublic publicHeads take-off reduceFrom reduce addRow learnAs learnAll nothing knowledge offer opened built offers allOffers leastOf isSumOf nextNumber secondPart expand stepAt after reached nextStep goesOn ended run member insert highest leading
+unfolding outcomeOf refusal noSheet badCount shortList badPair badPairs badRecord badRecords notListed when orElse first equal anyFrom fits atomOf decodeAs numberAt beginAt listed parts shape alike least xorAll firstAlike standardSet buildSet sets setAt repAt isPublic publicHeads take-off reduceFrom reduce addRow learnAs learnAll nothing knowledge offer opened built offers allOffers leastOf isSumOf nextNumber secondPart expand stepAt after reached nextStep goesOn ended run member insert highest leading
 runs = (
   (refl, omega arith, refl, refl, refl),
   (refl, omega arith, refl, refl, refl),
@@ -126,7 +126,7 @@ Lacks s cut budget used remainder =
     (refusal s ≡ 0) × (cut ≤ traceLength s) × (missingOf s cut budget .used ≡ used) × (missingOf s cut budget .remainder ≡ remainder)
 
 lacks : Lacks sheetPad 1 256 4 1 × Lacks sheetOther 1 256 4 1 × Lacks sheetBelow 1 256 4 9 × Lacks sheetDrawn 3 256 3 8 × Lacks sheetA 3 0 0 0
-unfolding missingAs missingOf outcomeOf refusal noSheet badCount shortList badPair badPairs badRecord badRecords notListed when orElse first equal anyFrom fits decodeAs numberAt beginAt listed parts shape alike least xorAll firstAlike standardSet buildSet sets setAt repAt isPublic publicHeads take-off reduceFrom reduce addRow learnAs learnAll nothing knowledge offer opened built offers allOffers leastOf isSumOf nextNumber secondPart expand stepAt after reached nextStep goesOn ended run member insert highest leading
+unfolding missingAs missingOf outcomeOf refusal noSheet badCount shortList badPair badPairs badRecord badRecords notListed when orElse first equal anyFrom fits atomOf decodeAs numberAt beginAt listed parts shape alike least xorAll firstAlike standardSet buildSet sets setAt repAt isPublic publicHeads take-off reduceFrom reduce addRow learnAs learnAll nothing knowledge offer opened built offers allOffers leastOf isSumOf nextNumber secondPart expand stepAt after reached nextStep goesOn ended run member insert highest leading
 lacks = (
   (refl, omega arith, refl, refl),
   (refl, omega arith, refl, refl),
@@ -172,11 +172,11 @@ module _ {old out : List ℕ} {answer : ℕ} where
 
 -- the replay on sheet A: the entries gained at the start, its seal, and every entry its own head
 replay-A : (startEntries sheetA 3 ≡ 2 ∷ 4 ∷ 1 ∷ []) × (termAt (entryAt sheetA) 4 ≡ enc (termAt (entryAt sheetA) 3) (termAt (entryAt sheetA) 0))
-unfolding fits decodeAs numberAt listed isPublic publicHeads termAt terms build
+unfolding fits atomOf decodeAs numberAt listed isPublic publicHeads termAt terms build
 replay-A = (refl, refl)
 
 own-head : (i : ℕ) → i < 5 → repAt (entryAt sheetA) i ≡ i
-unfolding fits decodeAs numberAt shape alike least xorAll firstAlike standardSet buildSet sets setAt repAt listed
+unfolding fits atomOf decodeAs numberAt shape alike least xorAll firstAlike standardSet buildSet sets setAt repAt listed
 own-head zero l = refl
 own-head (suc zero) l = refl
 own-head (suc (suc zero)) l = refl

@@ -115,6 +115,21 @@ sheetDrawn =
     ∷ 0 ∷ 0 ∷ 0 ∷ 1 ∷ 0 ∷ 2
     ∷ 1 ∷ 3 ∷ 232 ∷ 1 ∷ 3 ∷ 233 ∷ 4 ∷ 0 ∷ 0 ∷ 0 ∷ 1 ∷ 1 ∷ 3 ∷ 234 ∷ 4 ∷ 0 ∷ 0 ∷ 0 ∷ 1 ∷ 0 ∷ 3 ∷ [])
 
+-- one entry, atom 255 in the long record, nothing heard; and atom 65,543 in its place, which is 65,536 and 7
+abbrev pub sheetLong255 : List ℕ
+sheetLong255 = head (0 ∷ 1 ∷ 0 ∷ 0 ∷ 0 ∷ 0 ∷ 0 ∷ 14 ∷ 0 ∷ 5 ∷ 1 ∷ 0 ∷ 0 ∷ 0 ∷ 255 ∷ [])
+
+abbrev pub sheet65543 : List ℕ
+sheet65543 = head (0 ∷ 1 ∷ 0 ∷ 0 ∷ 0 ∷ 0 ∷ 0 ∷ 14 ∷ 0 ∷ 5 ∷ 1 ∷ 0 ∷ 1 ∷ 0 ∷ 7 ∷ [])
+
+-- atom 1,000 in the short record, then in the long one; heard the first, goal the second
+abbrev pub sheetEither : List ℕ
+sheetEither = head (0 ∷ 2 ∷ 0 ∷ 1 ∷ 0 ∷ 1 ∷ 0 ∷ 20 ∷ 0 ∷ 3 ∷ 0 ∷ 23 ∷ 0 ∷ 5 ∷ 0 ∷ 0 ∷ 1 ∷ 3 ∷ 232 ∷ 1 ∷ 0 ∷ 0 ∷ 3 ∷ 232 ∷ [])
+
+-- atom 66,536, which is 65,536 and 1,000, then atom 1,000; heard the first, goal the second
+abbrev pub sheetHigh : List ℕ
+sheetHigh = head (0 ∷ 2 ∷ 0 ∷ 1 ∷ 0 ∷ 1 ∷ 0 ∷ 20 ∷ 0 ∷ 5 ∷ 0 ∷ 25 ∷ 0 ∷ 3 ∷ 0 ∷ 0 ∷ 1 ∷ 0 ∷ 1 ∷ 3 ∷ 232 ∷ 1 ∷ 3 ∷ 232 ∷ [])
+
 -- the rungs of sheet A at cut 3: "rung 0 sum 1 2" and "rung 3 open 4 0"
 abbrev pub sumStep : Step
 sumStep = step 0 6 unused unused 6
@@ -158,6 +173,13 @@ rows =
     ∷ case sheetOther 1 256 2000 1 4 1 []
     ∷ case sheetBelow 1 256 2000 1 4 9 []
     ∷ case sheetDrawn 3 256 2000 3 3 8 []
+    -- document 02, E10: in the long record 255 is on the hull label too, and 65,543 isn't; the same number in either length is the same term, so that
+    -- the second entry is gained when the first is heard; a number with another high half is another
+    ∷ case sheetLong255 0 0 1000 1 0 0 []
+    ∷ case sheet65543 0 0 2000 0 0 1 []
+    ∷ case sheetEither 0 256 2000 0 0 1 []
+    ∷ case sheetEither 1 0 1000 1 0 0 []
+    ∷ case sheetHigh 1 256 2000 1 0 2 []
     ∷ []
 
 -- the definitions yield the row

@@ -3,12 +3,13 @@
 mod stream;
 mod text;
 
+use dag::LONGEST;
 use libc::STDERR_FILENO;
 use libc::STDIN_FILENO;
 use libc::STDOUT_FILENO;
 
 fn main() {
-    let mut input = [0u8; 34445];
+    let mut input = [0u8; LONGEST + 1];
     let mut text = [0u8; 300000];
     let read = stream::read_all(STDIN_FILENO, &mut input);
     if read.failed {

@@ -19,11 +19,12 @@ use Rattle.deduction.proofs.Standard.Members.{rep-first, standard-head, standar
 use Rattle.dag.specs.Sheet.{countOf, recordAt, listed}
 use Rattle.dag.specs.Record.{kindOf, fits, itemCount, itemAt, decode, entryAt}
 use Rattle.dag.specs.Refusal.{refusal}
+use Rattle.dag.proofs.Laws.Parts.{item-listed}
 use Rattle.dag.proofs.Laws.Good.{Good, good}
 use Rattle.canonical.specs.Inner.Key.{keyOf, keyAt}
 use Rattle.canonical.specs.Inner.Tables.{setIn, numberIn, RightLine, Right}
 use Rattle.canonical.proofs.Laws.Key.{Narrow, key-same, key-alike, key-plain}
-use Rattle.canonical.proofs.Laws.Record.{Bytes, items-parts, parts-set, item-listed, narrow-bytes}
+use Rattle.canonical.proofs.Laws.Record.{Bytes, items-parts, parts-set, narrow-bytes}
 
 -- the tables are right for the entries before i
 module _ (e : ℕ → Entry) (n : ℕ) (down : Downward e n) (few : n ≤ 256) (narrow : Narrow e n) (i : ℕ) (h : i < n)

@@ -2,19 +2,20 @@
 -- Shown: the key of a record of each kind; the parts of a pair and of an encryption; a record with the key 0 has its items for parts, and
 -- its set is the sum of theirs; the bytes of a sheet leave its atoms narrow. Assumes nothing.
 use mathlib.Core.Path.{_≡_, refl, sym, ap, subst}
-use mathlib.Core.Bool.{true}
+use mathlib.Core.Bool.{Bool, true, false, cond}
 use mathlib.Core.Logic.{by-cases}
 use mathlib.Core.List.{List, [], _∷_, List·Memᴰ, List·Memᴰ·head, List·Memᴰ·tail, Memᴰ·append-left, Memᴰ·append-right}
 use Prim.Native.Nat.{ℕ, zero, suc, _+_, _*_, _-_, _/_, _^_, _≤_, _<_}
 use native.Mathlib.Decide.{decLt}
 use native.Mathlib.Omega.{arith}
+use lib.Dec.{eqb}
 use lib.ListN.{length, getD, take, drop, length-take, List·getD-eq-default}
 use lib.Seq.{getD-take, getD-drop}
 use borrow.Author.Tests.{eqb-true}
 use Rattle.deduction.specs.Entry.{Entry, Zero, Atom, Pair, Enc, Sum, parts}
 use Rattle.deduction.specs.Standard.{xorAll, buildSet}
 use Rattle.dag.specs.Sheet.{numberAt, recordAt, listed, offsetAt, lengthAt}
-use Rattle.dag.specs.Record.{kindOf, fits, itemCount, itemAt, decodeAs, entryAt}
+use Rattle.dag.specs.Record.{kindOf, fits, itemCount, itemAt, atomOf, decodeAs, entryAt}
 use Rattle.canonical.specs.Inner.Key.{keyOf}
 use Rattle.canonical.proofs.Laws.Key.{Narrow}
 
@@ -32,7 +33,7 @@ module _ (rep : ℕ → ℕ) (r : List ℕ) where
   sum-key (suc (suc (suc zero))) h = absurd (omega arith)
   sum-key (suc (suc (suc (suc k)))) h = refl
 
-  pub atom-key : (k : ℕ) → k ≡ 1 → 2 ^ 32 + numberAt r 1 ≡ keyOf rep (decodeAs k r)
+  pub atom-key : (k : ℕ) → k ≡ 1 → 2 ^ 32 + atomOf r ≡ keyOf rep (decodeAs k r)
   unfolding decodeAs keyOf
   atom-key zero h = absurd (omega arith)
   atom-key (suc zero) h = refl
@@ -83,13 +84,6 @@ parts-set rep s e n (Pair l r) h = absurd (omega arith)
 parts-set rep s e n (Enc m k) h = absurd (omega arith)
 parts-set rep s e n (Sum items) h = refl
 
-pub item-listed : (f : ℕ → ℕ) (n j : ℕ) → j < n → List·Memᴰ (f j) (listed f n)
-unfolding listed
-item-listed f zero j h = absurd (omega arith)
-item-listed f (suc n) j h =
-    by-cases (decLt j n) (λ l. Memᴰ·append-left (f n ∷ []) (item-listed f n j l))
-    (λ l. let last : j ≡ n = omega arith in Memᴰ·append-right (listed f n) (List·Memᴰ·head (ap f last)))
-
 -- a list of bytes
 abbrev pub Bytes : List ℕ → Type 0
 Bytes s = (k : ℕ) → getD s k 0 < 256
@@ -102,9 +96,17 @@ bytes-take n s b k =
 bytes-drop : (n : ℕ) (s : List ℕ) → Bytes s → Bytes (drop n s)
 bytes-drop n s b k = omega (arith, getD-drop n s k 0, b (n + k))
 
--- an atom's number is two bytes
+atom-narrow : (r : List ℕ) → Bytes r → atomOf r < 2 ^ 32
+unfolding atomOf numberAt
+atom-narrow r b = go (eqb (length r) 5)
+  where
+    go : (long : Bool) → cond long ((getD r 1 0 * 256 + getD r 2 0) * 65536 + (getD r 3 0 * 256 + getD r 4 0)) (getD r 1 0 * 256 + getD r 2 0) < 2 ^ 32
+    go true = omega (arith, b 1, b 2, b 3, b 4)
+    go false = omega (arith, b 1, b 2)
+
+-- an atom's number is two bytes or four
 pub narrow-bytes : (s : List ℕ) (n : ℕ) → Bytes s → Narrow (entryAt s) n
-unfolding decodeAs numberAt
+unfolding decodeAs
 narrow-bytes s n b i a h p = go (kindOf (recordAt s i)) p
   where
     small : Bytes (recordAt s i)
@@ -112,7 +114,7 @@ narrow-bytes s n b i a h p = go (kindOf (recordAt s i)) p
 
     go : (k : ℕ) → decodeAs k (recordAt s i) ≡ Atom a → a < 2 ^ 32
     go zero q = let z : _≡_ {A = ℕ} 0 1 = cc in omega arith
-    go (suc zero) q = let z : getD (recordAt s i) 1 0 * 256 + getD (recordAt s i) 2 0 ≡ a = cc in omega (arith, small 1, small 2)
+    go (suc zero) q = let z : atomOf (recordAt s i) ≡ a = cc in omega (arith, z, atom-narrow (recordAt s i) small)
     go (suc (suc zero)) q = let z : _≡_ {A = ℕ} 0 1 = cc in omega arith
     go (suc (suc (suc zero))) q = let z : _≡_ {A = ℕ} 0 1 = cc in omega arith
     go (suc (suc (suc (suc k)))) q = let z : _≡_ {A = ℕ} 0 1 = cc in omega arith

@@ -1,8 +1,10 @@
 -- The entry numbers in a record, kind by kind, and the fault of a record. Assumes nothing.
 use mathlib.Core.Path.{_≡_, refl, sym, ap, _∙_}
 use mathlib.Core.Bool.{Bool, true, false, not}
-use mathlib.Core.List.{List, [], _∷_}
+use mathlib.Core.List.{List, [], _∷_, List·Memᴰ, List·Memᴰ·head, Memᴰ·append-left, Memᴰ·append-right}
+use mathlib.Core.Logic.{by-cases}
 use Prim.Native.Nat.{ℕ, zero, suc, _≤_, _<_}
+use native.Mathlib.Decide.{decLt}
 use native.Mathlib.Omega.{arith}
 use borrow.Author.Tests.{le-leb, lt-leb}
 use lib.ListN.{length}
@@ -65,3 +67,11 @@ module _ (i : ℕ) (r : List ℕ) where
   pub record-good : fits (kindOf r) (length r) ≡ true → 2 ≤ kindOf r → kindOf r ≤ 3 → numberAt r 1 < i → numberAt r 3 < i → 0 ≡ badRecord i r
   unfolding anyFrom
   record-good p h l m q = when-no 6 (two h l (or-no (lt-leb i (numberAt r 1) m) (or-no (lt-leb i (numberAt r 3) q) refl))) ∙ record-fits p
+
+-- each of f 0 .. f (n - 1) is listed
+pub item-listed : (f : ℕ → ℕ) (n j : ℕ) → j < n → List·Memᴰ (f j) (listed f n)
+unfolding listed
+item-listed f zero j h = absurd (omega arith)
+item-listed f (suc n) j h =
+    by-cases (decLt j n) (λ l. Memᴰ·append-left (f n ∷ []) (item-listed f n j l))
+    (λ l. let last : j ≡ n = omega arith in Memᴰ·append-right (listed f n) (List·Memᴰ·head (ap f last)))

@@ -1,11 +1,30 @@
--- The lengths that a kind has. Assumes nothing.
+-- The lengths that a kind has, and an atom's number in each of its lengths. Assumes nothing.
 use mathlib.Core.Path.{_≡_, refl, sym, ap}
-use mathlib.Core.Bool.{Bool, false, _&&_}
-use Prim.Native.Nat.{ℕ, zero, suc, _%_}
+use mathlib.Core.Bool.{Bool, true, false, cond, _&&_, _||_}
+use mathlib.Core.List.{List}
+use Prim.Native.Nat.{ℕ, zero, suc, _+_, _*_, _%_}
 use native.Mathlib.Omega.{arith}
 use borrow.Author.Tests.{eq-eqb, ne-eqb}
-use lib.Dec.{leb}
-use Rattle.dag.specs.Record.{fits}
+use lib.Dec.{eqb, leb}
+use lib.ListN.{length}
+use Rattle.dag.specs.Sheet.{numberAt}
+use Rattle.dag.specs.Record.{fits, atomOf}
+
+pub fits-short : (len : ℕ) → len ≡ 3 → true ≡ fits 1 len
+unfolding fits
+fits-short len p = sym (ap (λ (b : Bool). b || eqb len 5) (eq-eqb len 3 p))
+
+pub fits-long : (len : ℕ) → (len ≡ 3 → ⊥) → eqb len 5 ≡ fits 1 len
+unfolding fits
+fits-long len n = sym (ap (λ (b : Bool). b || eqb len 5) (ne-eqb len 3 n))
+
+pub atom-long : (r : List ℕ) → length r ≡ 5 → numberAt r 1 * 65536 + numberAt r 3 ≡ atomOf r
+unfolding atomOf
+atom-long r p = sym (ap (λ (b : Bool). cond b (numberAt r 1 * 65536 + numberAt r 3) (numberAt r 1)) (eq-eqb (length r) 5 p))
+
+pub atom-short : (r : List ℕ) → (length r ≡ 5 → ⊥) → numberAt r 1 ≡ atomOf r
+unfolding atomOf
+atom-short r n = sym (ap (λ (b : Bool). cond b (numberAt r 1 * 65536 + numberAt r 3) (numberAt r 1)) (ne-eqb (length r) 5 n))
 
 pub fits-even : (len : ℕ) → len % 2 ≡ 0 → false ≡ fits 4 len
 unfolding fits

@@ -8,7 +8,7 @@ use borrow.Author.Needs.{needs}
 use Rattle.dag.proofs.Laws.Refusal.{or-yes, or-no, when-yes, when-no, equal-same, equal-differs}
 use denote.Ref.{now}
 use Rattle.dag.specs.Sheet.{letters}
-use Rattle.dag.specs.Refusal.{noSheet}
+use Rattle.dag.specs.Refusal.{longest, noSheet}
 use Rattle.dag.proofs.faults.no_sheet.Statement.{statement}
 use Rattle.dag.proofs.faults.no_sheet.Tie as tie
 
@@ -20,7 +20,7 @@ returns c = let s = now (c .before .before .args .s) in
 returns-2 : tie.Need-returns-2
 unfolding noSheet
 returns-2 c = let s = now (c .before .before .before .args .s) in
-    when-yes 1 (or-no (le-ltb (length s) 10 (omega arith)) (or-yes _ (lt-ltb 34444 (length s) (omega arith))))
+    when-yes 1 (or-no (le-ltb (length s) 10 (omega arith)) (or-yes _ (lt-ltb longest (length s) (omega arith))))
 
 sub-same : tie.Need-sub-same
 sub-same c = search needs
@@ -40,12 +40,12 @@ same-requires c κs = search needs
 returns-3 : tie.Need-returns-3
 unfolding noSheet
 returns-3 c = let s = now (c .before .before .before .before .before .before .before .args .s) in
-    when-no 1 (or-no (le-ltb (length s) 10 (omega arith)) (or-no (le-ltb 34444 (length s) (omega arith)) (ap not (equal-same (take 4 s) letters (c .before .same .ensures .0 (c .if3 .taken))))))
+    when-no 1 (or-no (le-ltb (length s) 10 (omega arith)) (or-no (le-ltb longest (length s) (omega arith)) (ap not (equal-same (take 4 s) letters (c .before .same .ensures .0 (c .if3 .taken))))))
 
 returns-4 : tie.Need-returns-4
 unfolding noSheet
 returns-4 c = let s = now (c .before .before .before .before .before .before .before .args .s) in
-    when-yes 1 (or-no (le-ltb (length s) 10 (omega arith)) (or-no (le-ltb 34444 (length s) (omega arith)) (ap not (equal-differs (take 4 s) letters (λ p. false≢true (sym (c .if3 .left) ∙ c .before .same .ensures .1 p))))))
+    when-yes 1 (or-no (le-ltb (length s) 10 (omega arith)) (or-no (le-ltb longest (length s) (omega arith)) (ap not (equal-differs (take 4 s) letters (λ p. false≢true (sym (c .if3 .left) ∙ c .before .same .ensures .1 p))))))
 
 pub no-sheet-spec : {M : Type 1} → statement M
 no-sheet-spec =

@@ -1,6 +1,7 @@
 -- `dag::record::has_length` meets its contract, kind by kind.
 use mathlib.Core.Path.{sym, ap, _∙_}
 use Prim.Native.Nat.{ℕ}
+use borrow.Author.Needs.{needs}
 use Rattle.dag.specs.Record.{fits}
 use Rattle.dag.proofs.Laws.Record.{fits-even, fits-odd, fits-none}
 use Rattle.dag.proofs.record.has_length.Statement.{statement}
@@ -10,9 +11,11 @@ returns : tie.Need-returns
 unfolding fits
 returns c = sym (ap (λ (k : ℕ). fits k (c .before .args .len)) (c .if1 .taken))
 
+atom-has-length-requires : tie.Need-atom-has-length-requires
+atom-has-length-requires c κs = search needs
+
 returns-2 : tie.Need-returns-2
-unfolding fits
-returns-2 c = sym (ap (λ (k : ℕ). fits k (c .before .before .args .len)) (c .if2 .taken))
+returns-2 c = c .atom-has-length .ensures ∙ sym (ap (λ (k : ℕ). fits k (c .before .before .before .args .len)) (c .before .if2 .taken))
 
 returns-3 : tie.Need-returns-3
 unfolding fits
@@ -33,4 +36,4 @@ returns-7 c = fits-none (c .before .before .before .before .before .args .kind) 
 
 pub has-length-spec : {M : Type 1} → statement M
 has-length-spec =
-    tie.close (tie.spec returns returns-2 returns-3 returns-4 returns-5 returns-6 returns-7)
+    tie.close (tie.spec returns atom-has-length-requires returns-2 returns-3 returns-4 returns-5 returns-6 returns-7)
