@@ -25,10 +25,10 @@ other-key k n =
     (λ h. sym (ap₂ _&&_ (le-leb (2 ^ 32) k (omega arith)) (le-ltb k (2 ^ 32 + 256) (omega arith))))
 
 returns : tie.Need-returns
-returns c = atom-key (c .before .args .key) (c .if1 .taken)
+returns c = atom-key (c .before .args .key) (omega (arith, c .if1 .taken))
 
 returns-2 : tie.Need-returns-2
-returns-2 c = other-key (c .before .args .key) (c .if1 .left)
+returns-2 c = other-key (c .before .args .key) (λ p. omega (arith, c .if1 .left, p))
 
 pub is-public-spec : {M : Type 1} → statement M
 is-public-spec = tie.close (tie.spec returns returns-2)
