@@ -11,8 +11,8 @@ mod larger;
 mod reading;
 use larger::Larger;
 use reading::{add, all_sums, expected, highest, members, missing_part, one, read, set_bytes, single, size, standard, start, work, Answer, Piece, Set, Term};
-use sheets::{damage, random_entries, sheet, Entry, Random, ATOMS, FRONT};
-use std::collections::BTreeSet;
+use sheets::{damage, entries_over, full_sheet, random_entries, sheet, Entry, Random, ATOMS, FRONT, LONGEST};
+use std::collections::{BTreeMap, BTreeSet};
 use std::rc::Rc;
 
 extern "C" {
@@ -23,6 +23,9 @@ fn verdict(s: &[u8], cut: u32, budget: u32, buffer: &mut [u8]) -> u32 {
     // Both areas are slices, so neither pointer is null and they don't overlap.
     unsafe { zuwendryk_verdict(s.as_ptr(), s.len(), cut, budget, buffer.as_mut_ptr(), buffer.len()) }
 }
+
+// The length of a buffer for 256 rungs.
+const ROOM: usize = FRONT + 40 * 256;
 
 // ---- off the sheet: everything that can be made up to a size
 
@@ -79,7 +82,7 @@ struct Tally {
 
 impl Tally {
     // One call, with guard bytes on both sides of the buffer.
-    fn call(&mut self, s: &[u8], cut: u32, budget: u32, length: usize) {
+    fn call(&mut self, what: &str, s: &[u8], cut: u32, budget: u32, length: usize) {
         let pattern = |i: usize| (i * 37 + 11) as u8;
         let mut area: Vec<u8> = (0..length + 32).map(pattern).collect();
         let got = verdict(s, cut, budget, &mut area[16..16 + length]);
@@ -94,7 +97,45 @@ impl Tally {
         }
         self.used += u64::from(number / 1000 == 2 && buffer[32..64] != [0; 32]);
         if got != number || area[16..16 + length] != buffer[..] || !guarded {
-            self.fail(&format!("sheet {s:?} cut {cut} budget {budget} length {length}: library {got}, text {number}, guards kept: {guarded}"));
+            let places = (0..length).filter(|&i| area[16 + i] != buffer[i]).take(4).collect::<Vec<usize>>();
+            let sheet = if s.len() < 200 { format!("{s:?}") } else { format!("of {} bytes", s.len()) };
+            self.fail(&format!("{what}: library {got}, text {number}, bytes differ at {places:?}, guards kept: {guarded}; cut {cut} budget {budget} length {length} sheet {sheet}"));
+        }
+    }
+
+    // One call whose number is stated.
+    fn number(&mut self, what: &str, s: &[u8], cut: u32, budget: u32, length: usize, want: u32) {
+        let got = verdict(s, cut, budget, &mut vec![0; length]);
+        self.calls += 1;
+        if got != want {
+            self.fail(&format!("{what}: {got}, wanted {want}"));
+        }
+    }
+
+    // The same, and its number and buffer are compared with the reading's.
+    fn case(&mut self, what: &str, s: &[u8], cut: u32, budget: u32, length: usize, want: u32) {
+        self.number(what, s, cut, budget, length, want);
+        self.call(what, s, cut, budget, length);
+    }
+
+    // One call with budget 0 whose number and gained set are stated.
+    fn gained(&mut self, what: &str, s: &[u8], cut: u32, want: u32, gained: &[usize]) {
+        self.case(what, s, cut, 0, FRONT, want);
+        let mut buffer = vec![0xa5; FRONT];
+        verdict(s, cut, 0, &mut buffer);
+        self.calls += 1;
+        if buffer[..32] != set_bytes(gained.iter().copied()) {
+            self.fail(&format!("{what}: gained {:?}, wanted {gained:?}", members(&buffer[..32])));
+        }
+    }
+
+    // A call of each sheet at its cut, neither of which is refused: number and bytes are the same.
+    fn same(&mut self, what: &str, sheets: [&[u8]; 2], cuts: [usize; 2], budget: usize) {
+        let mut outs = [(); 2].map(|_| vec![0xa5u8; FRONT + 40 * budget]);
+        let answers = [0, 1].map(|i| verdict(sheets[i], cuts[i] as u32, budget as u32, &mut outs[i]));
+        self.calls += 1;
+        if answers[0] < 1000 || answers[0] != answers[1] || outs[0] != outs[1] {
+            self.fail(&format!("{what}: {answers:?} at cuts {cuts:?}, budget {budget}, same bytes: {}, sheets {sheets:?}", outs[0] == outs[1]));
         }
     }
 
@@ -120,7 +161,7 @@ impl Tally {
         }
     }
 
-    fn every_cut(&mut self, s: &[u8], r: &mut Random) {
+    fn every_cut(&mut self, what: &str, s: &[u8], r: &mut Random) {
         let h = if s.len() >= 8 { u16::from_be_bytes([s[6], s[7]]).min(6) as u32 } else { 0 };
         for cut in 0..=h + 1 {
             for budget in [0, 1, 2, 3, 8, 256, 257, 65536] {
@@ -131,10 +172,10 @@ impl Tally {
                     2..=3 => room + r.below(50) as usize,
                     _ => room,
                 };
-                self.call(s, cut, budget, length);
+                self.call(what, s, cut, budget, length);
             }
         }
-        self.call(s, 65536, 0, FRONT);
+        self.call(what, s, 65536, 0, FRONT);
     }
 }
 
@@ -142,12 +183,18 @@ fn small_sheets(t: &mut Tally, r: &mut Random) {
     for _ in 0..20_000 {
         let (entries, heard, goal) = random_entries(r, 8);
         let good = sheet(&entries, &heard, goal);
-        t.every_cut(&good, r);
+        t.every_cut("a small sheet", &good, r);
         if r.below(2) == 0 {
             let bad = damage(r, good);
-            t.every_cut(&bad, r);
+            t.every_cut("a damaged sheet", &bad, r);
         }
     }
+}
+
+// An atom with the number drawn, in the short record where it fits, or in the long one.
+fn either(r: &mut Random, number: impl Fn(&mut Random) -> u32) -> Entry {
+    let number = number(r);
+    if r.below(2) == 0 { Entry::Long(number) } else { Entry::Atom(number) }
 }
 
 // Atoms of both ranges and sums of them, which are heard: which of the gained terms a sum draws on depends on the order in which names and messages
@@ -156,11 +203,11 @@ fn heard_sums(t: &mut Tally, r: &mut Random) {
     for _ in 0..2000 {
         let atoms = 2 + r.below(3);
         let sums = 2 + r.below(4);
-        let mut entries: Vec<Entry> = (0..atoms).map(|_| Entry::Atom(ATOMS[r.below(6) as usize])).collect();
+        let mut entries: Vec<Entry> = (0..atoms).map(|_| either(r, |r| ATOMS[r.below(ATOMS.len() as u64) as usize])).collect();
         entries.extend((0..sums).map(|_| Entry::Sum((0..2 + r.below(2)).map(|_| r.below(atoms) as u16).collect())));
         let heard: Vec<u16> = (0..sums).map(|_| r.below(atoms + sums) as u16).collect();
         let s = sheet(&entries, &heard, r.below(atoms) as u16);
-        t.every_cut(&s, r);
+        t.every_cut("heard sums", &s, r);
     }
 }
 
@@ -170,8 +217,8 @@ fn lacking_entries(r: &mut Random) -> kinds::Parts {
     let part = |i: u64, r: &mut Random| match (i, r.below(8)) {
         (2.., 0) => Entry::Pair(r.below(i) as u16, r.below(i) as u16),
         (2.., 1) => Entry::Seal(r.below(i) as u16, r.below(i) as u16),
-        (_, 2) => Entry::Atom(r.below(256) as u16),
-        _ => Entry::Atom(1000 + i as u16),
+        (_, 2) => either(r, |r| r.below(256) as u32),
+        _ => either(r, |r| 1000 + i as u32 + 65536 * r.below(2) as u32),
     };
     let mut entries: Vec<Entry> = (0..parts).map(|i| part(i, r)).collect();
     entries.extend((0..sums).map(|_| Entry::Sum((0..2 + r.below(3)).map(|_| r.below(parts) as u16).collect())));
@@ -182,30 +229,39 @@ fn lacking_entries(r: &mut Random) -> kinds::Parts {
 fn lacking_sums(t: &mut Tally, r: &mut Random) {
     for _ in 0..2000 {
         let (entries, heard, goal) = lacking_entries(r);
-        t.every_cut(&sheet(&entries, &heard, goal), r);
+        t.every_cut("sums out of reach", &sheet(&entries, &heard, goal), r);
     }
+}
+
+// The entries with other atoms: each number's new entry in its places.
+fn with_atoms(entries: &[Entry], mut new: impl FnMut(u32) -> Entry) -> Vec<Entry> {
+    let atom = |e: &Entry| if let Entry::Atom(a) | Entry::Long(a) = e { new(*a) } else { e.clone() };
+    entries.iter().map(atom).collect()
+}
+
+// A larger sheet. On every second one the odd atom numbers from 256 on are moved into the high half, and odd public atoms have the long record.
+fn larger_sheet(kind: fn(usize, u64) -> kinds::Parts, seed: u64) -> kinds::Parts {
+    let (entries, heard, goal) = kind(20 + 10 * (seed as usize % 16), seed);
+    let moved = |a: u32| match (a % 2, a) {
+        (0, _) => Entry::Atom(a),
+        (_, 0..=255) => Entry::Long(a),
+        _ => Entry::Atom(a << 16),
+    };
+    (if seed / 3 % 2 == 0 { with_atoms(&entries, moved) } else { entries }, heard, goal)
 }
 
 // Larger sheets, on which sums can't be tried one by one: with names on the hull label the answer and every byte are those of the sheet that has
 // other atoms in their places, heard ahead of all messages.
 fn names_as_heard(t: &mut Tally) {
     for seed in 0..300 {
-        let n = 20 + 10 * (seed as usize % 16);
-        let (named, heard, goal) = kinds::labelled(n, seed);
-        let names: Vec<u16> = (0..n as u16).filter(|i| matches!(named[usize::from(*i)], Entry::Atom(0..=255))).collect();
-        let hide = |e: &Entry| if let Entry::Atom(a @ 0..=255) = e { Entry::Atom(2000 + a) } else { e.clone() };
-        let hidden: Vec<Entry> = named.iter().map(hide).collect();
+        let (named, heard, goal) = larger_sheet(kinds::labelled, seed);
+        let names: Vec<u16> = (0..named.len() as u16).filter(|i| matches!(named[usize::from(*i)], Entry::Atom(0..=255) | Entry::Long(0..=255))).collect();
+        let hidden = with_atoms(&named, |a| Entry::Atom(if a < 256 { 2000 + a } else { a }));
         let names_first = [names.clone(), heard.clone()].concat();
         let sheets = [sheet(&named, &heard, goal), sheet(&hidden, &names_first, goal)];
         for cut in [0, heard.len() / 2, heard.len()] {
             for budget in [0, 7, 256] {
-                let mut outs = [(); 2].map(|_| vec![0xa5u8; FRONT + 40 * budget]);
-                let cuts = [cut, cut + names.len()];
-                let answers = [0, 1].map(|i| verdict(&sheets[i], cuts[i] as u32, budget as u32, &mut outs[i]));
-                t.calls += 1;
-                if answers[0] != answers[1] || outs[0] != outs[1] {
-                    t.fail(&format!("names {named:?} heard {heard:?} goal {goal} cut {cut} budget {budget}: {answers:?}"));
-                }
+                t.same("names on the label, and the same heard first", [&sheets[0], &sheets[1]], [cut, cut + names.len()], budget);
             }
         }
     }
@@ -242,8 +298,7 @@ fn every_pair(t: &mut Tally, r: &mut Random) -> u64 {
 // Larger sheets: what the request says of the pair of used set and remainder, of which there is one, holds of the library's bytes.
 fn larger_sheets(t: &mut Tally) {
     for seed in 0..450 {
-        let n = 20 + 10 * (seed as usize % 16);
-        let (entries, heard, goal) = [kinds::drawn, kinds::labelled, kinds::lacking][seed as usize % 3](n, seed);
+        let (entries, heard, goal) = larger_sheet([kinds::drawn, kinds::labelled, kinds::lacking][seed as usize % 3], seed);
         let s = sheet(&entries, &heard, goal);
         let larger = Larger::new(&s);
         for cut in [0, heard.len() / 4, heard.len() / 2, heard.len()] {
@@ -283,59 +338,64 @@ fn off_sheet(r: &mut Random) -> (u64, u64) {
     (tried, failed)
 }
 
-// The flight card's cases, each atom with 1,000 and its old number, the edges of case 9, and cases of document 02.
-fn cases(t: &mut Tally) -> u32 {
+// The flight card's cases, each atom with 1,000 and its old number, but for case 9.
+fn flight_card(t: &mut Tally) {
     use Entry::*;
-    let mut wrong = 0;
-    let mut case = |what: &str, entries: &[Entry], heard: &[u16], goal: u16, cut: u32, budget: u32, length: usize, want: u32| {
-        let s = sheet(entries, heard, goal);
-        t.call(&s, cut, budget, length);
-        let mut buffer = vec![0u8; length];
-        let got = verdict(&s, cut, budget, &mut buffer);
-        if got != want {
-            wrong += 1;
-            println!("{what}: {got}, wanted {want}");
-        }
+    let mut case = |what: &str, entries: &[Entry], heard: &[u16], goal: u16, cut: u32, budget: u32, want: u32| {
+        t.case(what, &sheet(entries, heard, goal), cut, budget, FRONT + 40 * budget as usize, want);
     };
     let a = [Atom(1007), Atom(1009), Sum(vec![0, 1]), Atom(1012), Seal(3, 0)];
-    let room = FRONT + 40 * 256;
-    case("case 1", &a, &[2, 4, 1], 3, 3, 256, room, 1002);
-    case("case 2", &a, &[2, 4, 1], 3, 2, 0, FRONT, 2000);
-    case("case 3, budget 0", &a, &[2, 4, 1], 3, 3, 0, FRONT, 3000);
-    case("case 3, budget 1", &a, &[2, 4, 1], 3, 3, 1, FRONT + 40, 3001);
-    case("case 3, budget 2", &a, &[2, 4, 1], 3, 3, 2, FRONT + 80, 1002);
-    case("case 4", &[Zero], &[], 0, 0, 256, room, 1001);
-    case("case 5", &[Zero, Pair(0, 0)], &[], 1, 0, 256, room, 1002);
-    case("case 6", &[Atom(1001), Sum(vec![0, 0]), Sum(vec![0, 1])], &[2], 0, 1, 256, room, 1000);
-    case("case 7", &[Atom(1001), Seal(0, 0)], &[1], 0, 1, 256, room, 2000);
-    case("case 8", &[Atom(1001), Atom(1002), Seal(0, 1), Sum(vec![2, 0])], &[3, 1], 0, 2, 256, room, 2000);
+    case("case 1", &a, &[2, 4, 1], 3, 3, 256, 1002);
+    case("case 2", &a, &[2, 4, 1], 3, 2, 0, 2000);
+    case("case 3, budget 0", &a, &[2, 4, 1], 3, 3, 0, 3000);
+    case("case 3, budget 1", &a, &[2, 4, 1], 3, 3, 1, 3001);
+    case("case 3, budget 2", &a, &[2, 4, 1], 3, 3, 2, 1002);
+    case("case 4", &[Zero], &[], 0, 0, 256, 1001);
+    case("case 5", &[Zero, Pair(0, 0)], &[], 1, 0, 256, 1002);
+    case("case 6", &[Atom(1001), Sum(vec![0, 0]), Sum(vec![0, 1])], &[2], 0, 1, 256, 1000);
+    case("case 7", &[Atom(1001), Seal(0, 0)], &[1], 0, 1, 256, 2000);
+    case("case 8", &[Atom(1001), Atom(1002), Seal(0, 1), Sum(vec![2, 0])], &[3, 1], 0, 2, 256, 2000);
+}
+
+// The edges of case 9, and lengths of the buffer.
+fn edges(t: &mut Tally) {
+    use Entry::*;
+    let mut case = |what: &str, entries: &[Entry], heard: &[u16], goal: u16, cut: u32, budget: u32, length: usize, want: u32| {
+        t.case(what, &sheet(entries, heard, goal), cut, budget, length, want);
+    };
     let atoms: Vec<Entry> = (0..256).map(|i| Atom(1000 + i)).collect();
     let more: Vec<Entry> = (0..257).map(|i| Atom(1000 + i)).collect();
-    case("n 256", &atoms, &[255], 255, 1, 256, room, 1000);
-    case("n 257", &more, &[255], 255, 1, 256, room, 2);
-    case("64 items", &[Atom(1001), Sum(vec![0; 64])], &[1], 1, 1, 256, room, 1000);
-    case("65 items", &[Atom(1001), Sum(vec![0; 65])], &[1], 1, 1, 256, room, 5);
-    case("an item equal to its own entry", &[Atom(1001), Sum(vec![1])], &[1], 1, 1, 256, room, 6);
+    case("n 256", &atoms, &[255], 255, 1, 256, ROOM, 1000);
+    case("n 257", &more, &[255], 255, 1, 256, ROOM, 2);
+    case("64 items", &[Atom(1001), Sum(vec![0; 64])], &[1], 1, 1, 256, ROOM, 1000);
+    case("65 items", &[Atom(1001), Sum(vec![0; 65])], &[1], 1, 1, 256, ROOM, 5);
+    case("an item equal to its own entry", &[Atom(1001), Sum(vec![1])], &[1], 1, 1, 256, ROOM, 6);
     case("cut h", &[Atom(1001)], &[0], 0, 1, 0, FRONT, 1000);
     case("cut h + 1", &[Atom(1001)], &[0], 0, 2, 0, FRONT, 8);
-    case("budget 256", &[Atom(1001)], &[0], 0, 1, 256, room, 1000);
+    case("budget 256", &[Atom(1001)], &[0], 0, 1, 256, ROOM, 1000);
     case("budget 257", &[Atom(1001)], &[0], 0, 1, 257, 65536, 9);
     case("96 bytes at budget 0", &[Atom(1001)], &[0], 0, 1, 0, FRONT, 1000);
     case("95 bytes at budget 0", &[Atom(1001)], &[0], 0, 1, 0, FRONT - 1, 10);
     case("32 bytes at budget 0, enough before E5", &[Atom(1001)], &[0], 0, 1, 0, 32, 10);
     case("no bytes at budget 0", &[Atom(1001)], &[0], 0, 1, 0, 0, 10);
-    case("one byte short at budget 256", &[Atom(1001)], &[0], 0, 1, 256, room - 1, 10);
-    // E2
-    case("the first name", &[Atom(0)], &[], 0, 0, 0, FRONT, 1000);
-    case("the last name", &[Atom(255)], &[], 0, 0, 0, FRONT, 1000);
-    case("no name", &[Atom(256)], &[], 0, 0, 0, FRONT, 2000);
-    case("zero is no name", &[Zero, Atom(0)], &[], 0, 0, 256, room, 1001);
-    case("a name twice", &[Atom(9), Atom(9)], &[], 1, 0, 0, FRONT, 1000);
+    case("one byte short at budget 256", &[Atom(1001)], &[0], 0, 1, 256, ROOM - 1, 10);
+}
+
+// Document 02, E2: names on the hull label.
+fn names(t: &mut Tally) {
+    use Entry::*;
+    let mut case = |what: &str, entries: &[Entry], heard: &[u16], goal: u16, cut: u32, budget: u32, want: u32| {
+        t.case(what, &sheet(entries, heard, goal), cut, budget, FRONT + 40 * budget as usize, want);
+    };
+    case("the first name", &[Atom(0)], &[], 0, 0, 0, 1000);
+    case("the last name", &[Atom(255)], &[], 0, 0, 0, 1000);
+    case("no name", &[Atom(256)], &[], 0, 0, 0, 2000);
+    case("zero is no name", &[Zero, Atom(0)], &[], 0, 0, 256, 1001);
+    case("a name twice", &[Atom(9), Atom(9)], &[], 1, 0, 0, 1000);
     let masked = [Atom(1000), Atom(7), Sum(vec![0, 1]), Atom(1001), Sum(vec![1, 3])];
-    case("masked with a name, nothing heard", &masked, &[0, 2, 4], 3, 0, 256, room, 2000);
-    case("masked with a name", &masked, &[0, 2, 4], 3, 3, 256, room, 1001);
-    case("masked with a name, heard in another order", &masked, &[4, 2, 0], 3, 1, 256, room, 1001);
-    wrong
+    case("masked with a name, nothing heard", &masked, &[0, 2, 4], 3, 0, 256, 2000);
+    case("masked with a name", &masked, &[0, 2, 4], 3, 3, 256, 1001);
+    case("masked with a name, heard in another order", &masked, &[4, 2, 0], 3, 1, 256, 1001);
 }
 
 // Document 02, E5: used sets and remainders that are stated, at the whole list and budget 256. Each call's buffer is compared with the reading's too.
@@ -343,7 +403,7 @@ fn missing_parts(t: &mut Tally) {
     use Entry::*;
     let mut case = |what: &str, entries: &[Entry], heard: &[u16], goal: u16, number: u32, used: &[u16], remainder: &[u16]| {
         let s = sheet(entries, heard, goal);
-        t.call(&s, heard.len() as u32, 256, FRONT + 40 * 256);
+        t.call(what, &s, heard.len() as u32, 256, ROOM);
         t.stated(what, &s, heard.len(), 256, number, used, remainder);
     };
     // a, b, their sum, c, the sum of b and c; then two entries that are no heads, and the sum of a and c
@@ -375,8 +435,9 @@ fn orders(t: &mut Tally) {
     use Entry::*;
     let mut case = |entries: &[Entry], heard: &[u16], goal: u16, number: u32, used: &[u16], remainder: &[u16]| {
         let s = sheet(entries, heard, goal);
-        t.call(&s, heard.len() as u32, 256, FRONT + 40 * 256);
-        t.stated(&format!("heard in the order {heard:?}"), &s, heard.len(), 256, number, used, remainder);
+        let what = format!("heard in the order {heard:?}");
+        t.call(&what, &s, heard.len() as u32, 256, ROOM);
+        t.stated(&what, &s, heard.len(), 256, number, used, remainder);
     };
     // the sums of each two of a, b and c, and as goal that of c and d
     let sums = [Atom(1000), Atom(1001), Atom(1002), Atom(1003), Sum(vec![0, 1]), Sum(vec![1, 2]), Sum(vec![0, 2]), Sum(vec![2, 3])];
@@ -408,52 +469,39 @@ fn zero_otherwise(t: &mut Tally) {
 }
 
 // Large sheets, whose answers are known by their build.
-fn large(t: &mut Tally) -> u32 {
+fn large(t: &mut Tally) {
     use Entry::*;
-    let mut wrong = 0;
-    let room = FRONT + 40 * 256;
-    let mut buffer = vec![0u8; room];
-    let mut want = |what: &str, s: &[u8], cut: u32, budget: u32, number: u32| {
-        t.calls += 1;
-        let got = verdict(s, cut, budget, &mut buffer[..FRONT + 40 * budget as usize]);
-        if got != number {
-            wrong += 1;
-            println!("{what}: {got}, wanted {number}");
-        }
-    };
+    let mut want = |what: &str, s: &[u8], cut: u32, budget: u32, number: u32| t.number(what, s, cut, budget, FRONT + 40 * budget as usize, number);
     // a chain of pairs over zero: every entry is one step, 256 in all
     let chain: Vec<Entry> = (0..256u16).map(|i| if i == 0 { Zero } else { Pair(i - 1, i - 1) }).collect();
     let s = sheet(&chain, &[], 255);
     want("a ladder of 256 rungs", &s, 0, 256, 1256);
     want("one rung short", &s, 0, 255, 3255);
-    // 256 atoms heard, in a row: 256 basis rows, and nothing follows
-    let atoms: Vec<Entry> = (0..256).map(|i| Atom(1000 + i)).collect();
+    // 256 atoms heard, in a row: 256 basis rows, and nothing follows; the same where the numbers differ in their high halves alone
     let heard: Vec<u16> = (0..256).collect();
-    want("256 basis rows", &sheet(&atoms, &heard, 255), 256, 256, 1000);
-    want("255 basis rows", &sheet(&atoms, &heard, 255), 255, 256, 2000);
+    for shift in [0, 16] {
+        let s = sheet(&(1000..1256).map(|i| Atom(i << shift)).collect::<Vec<Entry>>(), &heard, 255);
+        want("256 basis rows", &s, 256, 256, 1000);
+        want("255 basis rows", &s, 255, 256, 2000);
+    }
     // 256 names: as many basis rows, and nothing heard; heard again, nothing is added
-    let names: Vec<Entry> = (0..256).map(Atom).collect();
-    want("256 names", &sheet(&names, &heard, 255), 0, 0, 1000);
-    want("256 names heard", &sheet(&names, &heard, 255), 256, 0, 1000);
-    // the longest good sheet
-    let mut longest = vec![Atom(1001)];
-    longest.extend((1..256u16).map(|i| Sum(vec![i - 1; 64])));
-    let s = sheet(&longest, &[255; 256], 0);
-    assert_eq!(s.len(), 34444);
-    want("the longest good sheet", &s, 256, 256, 2000);
+    for name in [Atom, Long] {
+        let s = sheet(&(0..256).map(name).collect::<Vec<Entry>>(), &heard, 255);
+        want("256 names", &s, 0, 0, 1000);
+        want("256 names heard", &s, 256, 0, 1000);
+    }
     // sums of neighbours unwind to the last atom; the first sum is an atom itself
     let mut sums: Vec<Entry> = (0..128).map(|i| Atom(1000 + i)).collect();
     sums.extend((0..128u16).map(|i| Sum((0..=i.min(63)).map(|k| i - k).collect())));
     let heard: Vec<u16> = (128..256).collect();
     want("128 dense sums", &sheet(&sums, &heard, 127), 128, 256, 1127);
-    wrong
 }
 
 // Large sheets, whose used sets and remainders are known by their build.
 fn large_missing_parts(t: &mut Tally) {
     use Entry::*;
     // 85 times two atoms and their sum, which is heard; the goal is the sum of 64 upper atoms, so that it lacks as many lower ones
-    let mut triples: Vec<Entry> = (0..85).flat_map(|i| [Atom(1000 + 2 * i), Atom(1001 + 2 * i), Sum(vec![3 * i, 3 * i + 1])]).collect();
+    let mut triples: Vec<Entry> = (0..85).flat_map(|i| [Atom(1000 + 2 * u32::from(i)), Atom(1001 + 2 * u32::from(i)), Sum(vec![3 * i, 3 * i + 1])]).collect();
     triples.push(Sum((21..85).map(|i| 3 * i + 1).collect()));
     let heard: Vec<u16> = (0..85).map(|i| 3 * i + 2).collect();
     let [lower, sums] = [0, 2].map(|k| (21..85).map(|i| 3 * i + k).collect::<Vec<u16>>());
@@ -471,21 +519,263 @@ fn large_missing_parts(t: &mut Tally) {
     t.stated("names used", &sheet(&named, &[], 255), 0, 0, 2000, &used, &lacking);
 }
 
+// ---- document 02, E10: atoms of 32 bits
+
+// "The same number in either length is the same term", for numbers that fit both records and are not on the label.
+fn either_record(t: &mut Tally, a: u32) {
+    use Entry::*;
+    let mut case = |what: &str, entries: &[Entry], heard: &[u16], goal: u16, want: u32| {
+        t.case(&format!("{what}, {a}"), &sheet(entries, heard, goal), heard.len() as u32, 256, ROOM, want);
+    };
+    case("heard in the short record, the goal in the long one", &[Atom(a), Long(a)], &[0], 1, 1000);
+    case("heard in the long record, the goal in the short one", &[Atom(a), Long(a)], &[1], 0, 1000);
+    case("the long record first, and heard", &[Long(a), Atom(a)], &[0], 1, 1000);
+    case("the long record first, and the goal", &[Long(a), Atom(a)], &[1], 0, 1000);
+    case("the sum of both records is zero", &[Atom(a), Long(a), Sum(vec![0, 1])], &[], 2, 1001);
+    case("three times the atom is the atom", &[Atom(a), Long(a), Sum(vec![0, 1, 1])], &[2], 1, 1000);
+    case("the pair of both is the pair of one", &[Atom(a), Long(a), Pair(0, 0), Pair(0, 1)], &[2], 3, 1000);
+    case("sealed under the long record, opened by the short one", &[Atom(99999), Long(a), Atom(a), Seal(0, 1)], &[3, 2], 0, 1001);
+    case("sealed under the short record, opened by the long one", &[Atom(99999), Atom(a), Long(a), Seal(0, 1)], &[3, 2], 0, 1001);
+    case("sealed under the long record, which stands last", &[Atom(99999), Atom(a), Long(a), Seal(0, 2)], &[3, 1], 0, 1001);
+    case("masked with the long record, the short one heard", &[Atom(99999), Long(a), Sum(vec![0, 1]), Atom(a)], &[2, 3], 0, 1001);
+    case("masked with the short record, the long one heard", &[Atom(99999), Atom(a), Sum(vec![0, 1]), Long(a)], &[2, 3], 0, 1001);
+}
+
+// An atom in the records that its number fits.
+fn records_of(a: u32) -> Vec<Entry> {
+    if a < 65536 { vec![Entry::Atom(a), Entry::Long(a)] } else { vec![Entry::Long(a)] }
+}
+
+// Two numbers that are different atoms, in all records that they fit and in both places: with one heard the other is out of reach and lacks itself, their
+// sum isn't zero, and a seal under the one isn't opened by the other. Neither is on the label.
+fn apart(t: &mut Tally, what: &str, a: u32, b: u32) {
+    let what = format!("{what}, {a:#x} and {b:#x}");
+    for (x, y) in [(a, b), (b, a)] {
+        for [x, y] in records_of(x).iter().flat_map(|x| records_of(y).into_iter().map(|y| [x.clone(), y])) {
+            let two = [x, y, Entry::Sum(vec![0, 1]), Entry::Seal(2, 0)];
+            t.case(&what, &sheet(&two[..2], &[0], 1), 1, 0, FRONT, 2000);
+            t.stated(&what, &sheet(&two[..2], &[0], 1), 1, 0, 2000, &[], &[1]);
+            t.case(&format!("the sum of {what}"), &sheet(&two[..3], &[], 2), 0, 0, FRONT, 2000);
+            t.case(&format!("a seal under the first of {what}"), &sheet(&two, &[3, 1], 2), 2, 0, FRONT, 2000);
+        }
+    }
+}
+
+// "All stored atom numbers become 32 bits wide and none is cut": each half and each bit counts.
+fn whole_numbers(t: &mut Tally) {
+    apart(t, "a number and its low half", 0x07d0_03e8, 0x03e8);
+    apart(t, "a number and its high half", 0x07d0_03e8, 0x07d0);
+    apart(t, "halves exchanged", 0x07d0_03e8, 0x03e8_07d0);
+    apart(t, "bytes in the other order", 0x0102_0304, 0x0403_0201);
+    apart(t, "bytes of each half exchanged", 0x0102_0304, 0x0201_0403);
+    for bit in 0..32 {
+        for a in [0x0301, 65536 + 1000, 0x1234_5678, 0x5a5a_5a5a] {
+            apart(t, &format!("bit {bit} differs"), a, a ^ 1 << bit);
+        }
+    }
+}
+
+// Numbers at the ends of the short and the long record, and those that a reader may mix up with a short one.
+fn edge_numbers(t: &mut Tally) {
+    for a in [256, 1000, 65535, 65536, 65537, 16777216, 2147483647, 2147483648, 4294967295] {
+        for atom in records_of(a) {
+            t.case(&format!("{a} heard"), &sheet(&[atom.clone()], &[0], 0), 1, 0, FRONT, 1000);
+            t.case(&format!("{a} not heard"), &sheet(&[atom], &[0], 0), 0, 0, FRONT, 2000);
+        }
+    }
+    apart(t, "65,536 more", 1000, 65536 + 1000);
+    apart(t, "small halves exchanged", 0x0001_0002, 0x0002_0001);
+    apart(t, "in the low and in the high half", 1000, 1000 * 65536);
+    apart(t, "a short number and its bytes in the other order", 0x03e8, 0xe803_0000);
+    apart(t, "a short number and its two bytes exchanged", 0x03e8, 0xe803);
+    apart(t, "the last that fits the short record and the next", 65535, 65536);
+    apart(t, "the last of each record", 65535, 4294967295);
+    apart(t, "a half in the place of a byte", 0x0001_0000, 0x0100);
+    apart(t, "signed and not", 0xff00, 0xffff_ff00);
+}
+
+// "Atoms 0 to 255" are the names, in either record, and each is gained once, as its head.
+fn names_in_either_record(t: &mut Tally) {
+    use Entry::*;
+    for a in 0..256 {
+        t.case(&format!("the name {a} in the long record"), &sheet(&[Long(a)], &[], 0), 0, 0, FRONT, 1000);
+    }
+    for a in [256, 65536, 65536 + 7, 7 * 65536, 7 << 24, 255 << 16, 0x00ff_00ff, 4294967295 - 255, 4294967295 - 255 + 7, 4294967295] {
+        t.case(&format!("no name, {a}"), &sheet(&[Long(a)], &[], 0), 0, 0, FRONT, 2000);
+    }
+    for bit in 8..32 {
+        for a in [0, 7, 255] {
+            t.case(&format!("the name {a} with bit {bit} is none"), &sheet(&[Long(a | 1 << bit)], &[], 0), 0, 0, FRONT, 2000);
+        }
+    }
+    t.gained("a name short, then long", &sheet(&[Atom(7), Long(7), Atom(1000)], &[], 2), 0, 2000, &[0]);
+    t.gained("a name long, then short", &sheet(&[Long(7), Atom(7), Atom(1000)], &[], 2), 0, 2000, &[0]);
+    t.gained("a name in both records, heard too", &sheet(&[Long(7), Atom(7), Atom(1000)], &[1, 0], 2), 2, 2000, &[0]);
+    t.gained("two names in both records", &sheet(&[Atom(1000), Long(255), Atom(0), Long(0), Atom(255)], &[], 0), 0, 2000, &[1, 2]);
+    t.gained("a name beside numbers that end in it", &sheet(&[Long(65536 + 7), Long(7), Atom(1000), Long(7 << 24 | 7)], &[], 2), 0, 2000, &[1]);
+    let masked = [Atom(1000), Long(7), Sum(vec![0, 1]), Long(65536 + 7), Sum(vec![0, 3])];
+    t.case("masked with a name in the long record", &sheet(&masked, &[2], 0), 1, 256, ROOM, 1001);
+    t.case("masked with a number that ends in a name", &sheet(&masked, &[4], 0), 1, 256, ROOM, 2000);
+}
+
+// A long record has the length of a pair's and a seal's, and its number may be as large as what tells them apart: it is an atom all the same.
+fn no_other_kind(t: &mut Tally) {
+    use Entry::*;
+    let mut case = |what: &str, entries: &[Entry], heard: &[u16], goal: u16, want: u32| {
+        t.case(what, &sheet(entries, heard, goal), heard.len() as u32, 256, ROOM, want);
+    };
+    for high in [1, 2, 0x0100, 0x0200, 0xffff] {
+        let entries = [Atom(1000), Atom(1001), Long(high << 16 | 1), Pair(0, 1), Seal(0, 1)];
+        case("an atom with entry numbers in its number isn't split", &entries, &[2], 0, 2000);
+        case("an atom with entry numbers in its number isn't split right", &entries, &[2], 1, 2000);
+        case("an atom with entry numbers in its number isn't opened", &entries, &[2, 1], 0, 2000);
+        case("an atom with entry numbers in its number isn't made", &entries, &[0, 1], 2, 2002);
+        case("the pair isn't that atom", &entries, &[2], 3, 2000);
+        case("the seal isn't that atom", &entries, &[2], 4, 2000);
+    }
+    case("the bytes of a pair of entries 1 and 0", &[Atom(1000), Atom(1001), Long(1 << 16)], &[2], 0, 2000);
+    case("the bytes of a pair of entries 0 and 1, of a name", &[Atom(1000), Atom(1001), Long(1)], &[], 0, 2000);
+    for a in [1 << 16, 3 << 16, 4 << 16, 1 << 24, 3 << 24, 4 << 24, 0xffff_0000, 0xfffd_0000, 0xfffc_0000, 0xff00_0000, 1 << 31] {
+        case("an atom isn't zero", &[Long(a)], &[], 0, 2000);
+        case("an atom isn't zero, which stands beside it", &[Zero, Long(a), Sum(vec![0])], &[], 1, 2001);
+    }
+    case("number 0 in the long record", &[Long(0)], &[], 0, 1000);
+    for a in [0x0000_ffff, 0x0001_0000, 0x0001_0001, 0x0100_0100, 0x7fff_ffff, 0xffff_0000, 0xffff_ffff] {
+        case("a number is no entry number", &[Long(a)], &[0], 0, 1000);
+        case("a number is no entry number, in a later record", &[Zero, Long(a), Pair(0, 1)], &[2], 1, 1002);
+    }
+}
+
+// Kind 1 has the lengths 3 and 5 and no other.
+fn atom_lengths(t: &mut Tally) {
+    use Entry::*;
+    let atom = |length: usize| Raw([vec![1], vec![0; length - 2], vec![9]].concat());
+    t.case("an atom of length 1", &sheet(&[Raw(vec![1])], &[], 0), 0, 0, FRONT, 5);
+    for length in 2..=300 {
+        let want = if length == 3 || length == 5 { 1000 } else { 5 };
+        t.case(&format!("an atom of length {length}"), &sheet(&[atom(length)], &[0], 0), 1, 0, FRONT, want);
+    }
+    for length in [1, 2, 4, 6, 7, 129] {
+        let bad = Raw(vec![1; length]);
+        let what = |where_: &str| format!("an atom of length {length}, {where_}");
+        t.case(&what("last"), &sheet(&[Atom(1000), Long(1000), bad.clone()], &[0], 0), 1, 0, FRONT, 5);
+        t.case(&what("before a pair of itself"), &sheet(&[Atom(1000), bad.clone(), Pair(2, 2)], &[0], 0), 1, 0, FRONT, 5);
+        t.case(&what("after a pair of itself"), &sheet(&[Atom(1000), Pair(1, 1), bad], &[0], 0), 1, 0, FRONT, 6);
+    }
+    t.case("a long record before a pair of itself", &sheet(&[Long(4294967295), Pair(1, 1)], &[0], 0), 1, 0, FRONT, 6);
+}
+
+// Sheets of 34,446 bytes and of one more or fewer, whose entry 0 is an atom. Message 1 is zero and message 2 the atom.
+fn longest(t: &mut Tally) {
+    let full = |number: Entry, goal: u16| full_sheet(number, [255, 254], goal);
+    let (long, short) = (full(Entry::Long(65536 + 1000), 0), full(Entry::Atom(1000), 0));
+    assert_eq!([long.len(), short.len()], [LONGEST, 34444]);
+    for (what, s) in [("the longest sheet", &long), ("the longest with a short record", &short)] {
+        t.case(&format!("{what}, nothing heard"), s, 0, 256, ROOM, 2001);
+        t.case(&format!("{what}, zero heard"), s, 1, 256, ROOM, 2000);
+        t.case(&format!("{what}, its atom heard"), s, 2, 256, ROOM, 1000);
+        t.case(&format!("{what}, all heard"), s, 256, 0, FRONT, 1000);
+        t.case(&format!("{what}, past the log"), s, 257, 0, FRONT, 8);
+    }
+    t.case("the longest sheet, a name", &full(Entry::Long(7), 0), 0, 0, FRONT, 1000);
+    t.case("the longest sheet, a name for the goal's head", &full(Entry::Long(7), 254), 0, 0, FRONT, 1000);
+    t.case("the longest sheet and one byte", &[&long[..], &[0]].concat(), 2, 0, FRONT, 1);
+    t.case("34,446 bytes, of which two are left over", &[&short[..], &[0, 0]].concat(), 2, 0, FRONT, 4);
+    t.case("34,445 bytes, of which one is left over", &[&short[..], &[0]].concat(), 2, 0, FRONT, 4);
+    t.case("34,445 bytes, one too few", &long[..34445], 2, 0, FRONT, 4);
+    t.case("34,445 bytes, with an atom of length 4", &full(Entry::Raw(vec![1, 0, 0, 9]), 0), 2, 0, FRONT, 5);
+    t.case("34,447 bytes, with an atom of length 6", &full(Entry::Raw(vec![1, 0, 0, 0, 0, 9]), 0), 2, 0, FRONT, 1);
+    t.case("34,446 bytes, with a pair for the atom", &full(Entry::Pair(0, 0), 0), 2, 0, FRONT, 6);
+}
+
+// A number whose halves are among a few, so that numbers share halves and bytes.
+fn few_halves(r: &mut Random) -> u32 {
+    let mut half = || [0, 0, 0, 1, 7, 256, 0x0700, 65535][r.below(8) as usize];
+    half() << 16 | half()
+}
+
+// Small sheets over four numbers that share halves and bytes, in both records.
+fn shared_halves(t: &mut Tally, r: &mut Random) {
+    for _ in 0..3000 {
+        let atoms = [(); 4].map(|_| few_halves(r));
+        let (entries, heard, goal) = entries_over(r, 8, &atoms);
+        t.every_cut("numbers that share halves", &sheet(&entries, &heard, goal), r);
+    }
+}
+
+// Every second time a small sheet with numbers that share halves, otherwise a larger one.
+fn any_sheet(r: &mut Random, seed: u64) -> kinds::Parts {
+    if seed % 2 == 0 {
+        let atoms = [(); 5].map(|_| few_halves(r));
+        return entries_over(r, 16, &atoms);
+    }
+    larger_sheet([kinds::drawn, kinds::labelled, kinds::lacking][seed as usize % 3], seed / 2)
+}
+
+// These entries in the places of the sheet's own: at each cut and budget answer and bytes are the same.
+fn same_everywhere(t: &mut Tally, what: &str, (entries, heard, goal): &kinds::Parts, others: &[Entry]) {
+    let sheets = [sheet(entries, heard, *goal), sheet(others, heard, *goal)];
+    for cut in [0, heard.len() / 2, heard.len()] {
+        for budget in [0, 3, 256] {
+            t.same(what, [&sheets[0], &sheets[1]], [cut, cut], budget);
+        }
+    }
+}
+
+// The record that an atom's number stands in changes neither answer nor bytes: all long, short where they fit, each in its other one.
+fn other_records(t: &mut Tally, r: &mut Random) {
+    for seed in 0..400 {
+        let parts = any_sheet(r, seed);
+        let exchanged = |e: &Entry| match e {
+            Entry::Atom(a) => Entry::Long(*a),
+            Entry::Long(a) => Entry::Atom(*a),
+            _ => e.clone(),
+        };
+        same_everywhere(t, "every atom in the long record", &parts, &with_atoms(&parts.0, Entry::Long));
+        same_everywhere(t, "every atom in the short record, where it fits", &parts, &with_atoms(&parts.0, Entry::Atom));
+        same_everywhere(t, "every atom in its other record", &parts, &parts.0.iter().map(exchanged).collect::<Vec<Entry>>());
+    }
+}
+
+// Other numbers for the atoms, different ones for different ones, names for names and none for others: neither answer nor bytes change.
+fn other_numbers(t: &mut Tally, r: &mut Random) {
+    for seed in 0..400 {
+        let parts = any_sheet(r, seed);
+        let (mask, mut new, mut taken) = (r.below(256) as u32, BTreeMap::new(), BTreeSet::new());
+        let mut fresh = |r: &mut Random| loop {
+            let number = if r.below(4) == 0 { r.next() as u32 } else { few_halves(r) ^ few_halves(r).rotate_left(8) };
+            if number > 255 && taken.insert(number) {
+                return number;
+            }
+        };
+        let renamed = with_atoms(&parts.0, |a| {
+            let number = if a < 256 { a ^ mask } else { *new.entry(a).or_insert_with(|| fresh(r)) };
+            either(r, |_| number)
+        });
+        same_everywhere(t, "other numbers", &parts, &renamed);
+    }
+}
+
+// ---- every entry number
+
 // Each entry number in its own byte and bit, on sheets of 256 entries. Of 256 atoms one is heard, or is on the hull label, each with each of the 256
-// numbers of names once; and a sum of two atoms and the second of them are heard, by which a sum and a join gain the first and the pair of both.
+// numbers of names once in each record; and a sum of two atoms and the second of them are heard, by which a sum and a join gain the first and the pair of
+// both.
 fn every_entry(t: &mut Tally) {
     let atoms: Vec<Entry> = (0..256).map(|i| Entry::Atom(1000 + i)).collect();
     for e in 0..256 {
-        t.call(&sheet(&atoms, &[e], e), 1, 0, FRONT);
-        let mut named = atoms.clone();
-        named[usize::from(e)] = Entry::Atom(255 - e);
-        t.call(&sheet(&named, &[], e), 0, 0, FRONT);
+        t.call(&format!("entry {e} heard"), &sheet(&atoms, &[e], e), 1, 0, FRONT);
+        for name in [Entry::Atom, Entry::Long] {
+            let mut named = atoms.clone();
+            named[usize::from(e)] = name(u32::from(255 - e));
+            t.call(&format!("entry {e} a name"), &sheet(&named, &[], e), 0, 0, FRONT);
+        }
     }
     for e in 0..254 {
         let f = (e + 61) % 254;
         let mut entries = atoms[..254].to_vec();
         entries.extend([Entry::Sum(vec![e, f]), Entry::Pair(e, f)]);
-        t.call(&sheet(&entries, &[254, f], 255), 2, 2, FRONT + 80);
+        t.call(&format!("entries {e} and {f} by a sum and a join"), &sheet(&entries, &[254, f], 255), 2, 2, FRONT + 80);
     }
 }
 
@@ -494,14 +784,14 @@ fn every_entry_missing(t: &mut Tally) {
     let atoms: Vec<Entry> = (0..256).map(|i| Entry::Atom(1000 + i)).collect();
     for e in 0..256 {
         let alone = sheet(&atoms, &[], e);
-        t.call(&alone, 0, 0, FRONT);
+        t.call("an atom lacks itself", &alone, 0, 0, FRONT);
         t.stated("an atom lacks itself", &alone, 0, 0, 2000, &[], &[e]);
         // an entry that can be a sum is one of two atoms, and its higher item is the goal; the first two entries are items of the goal
         let mut entries = atoms.clone();
         let (place, items, goal, lacking) = if e < 2 { (255, [e, 2], 255, 2) } else { (e, [(e - 1) / 2, e - 1], e - 1, (e - 1) / 2) };
         entries[usize::from(place)] = Entry::Sum(items.to_vec());
         let heard = sheet(&entries, &[e], goal);
-        t.call(&heard, 1, 0, FRONT);
+        t.call("one entry used", &heard, 1, 0, FRONT);
         t.stated("one entry used", &heard, 1, 0, 2000, &[e], &[lacking]);
     }
 }
@@ -510,23 +800,38 @@ fn main() {
     let first_only = std::env::args().nth(1).as_deref() == Some("first");
     let mut t = Tally { calls: 0, failed: 0, reached: 0, out: 0, used: 0, stopped: 0, refused: 0, first_only };
     let mut r = Random(0x2545f4914f6cdd1d);
-    let wrong = cases(&mut t) + large(&mut t);
+    flight_card(&mut t);
+    edges(&mut t);
+    names(&mut t);
     missing_parts(&mut t);
     orders(&mut t);
     zero_otherwise(&mut t);
+    whole_numbers(&mut t);
+    for a in [256, 1000, 65535] {
+        either_record(&mut t, a);
+    }
+    names_in_either_record(&mut t);
+    edge_numbers(&mut t);
+    no_other_kind(&mut t);
+    atom_lengths(&mut t);
+    longest(&mut t);
+    large(&mut t);
     large_missing_parts(&mut t);
     every_entry(&mut t);
     every_entry_missing(&mut t);
     small_sheets(&mut t, &mut r);
     heard_sums(&mut t, &mut r);
     lacking_sums(&mut t, &mut r);
+    shared_halves(&mut t, &mut r);
     names_as_heard(&mut t);
     larger_sheets(&mut t);
+    other_records(&mut t, &mut r);
+    other_numbers(&mut t, &mut r);
     let pairs = every_pair(&mut t, &mut r);
     let (tried, failed) = off_sheet(&mut r);
     println!("brute force: {} calls, {} reached, {} out of reach, {} of them with a used set, {} stopped, {} refused", t.calls, t.reached, t.out, t.used, t.stopped, t.refused);
     println!("off the sheet: {tried} tried; every pair of used set and remainder: {pairs} sheets");
-    let bad = t.failed + failed + wrong as u64;
+    let bad = t.failed + failed;
     println!("brute: {} passed, {} failed", t.calls + tried - bad.min(t.calls + tried), bad);
     if bad > 0 || t.reached < 1000 || t.out < 1000 || t.used < 1000 || t.stopped < 1000 || t.refused < 1000 {
         std::process::exit(1);

@@ -9,7 +9,7 @@ use std::rc::Rc;
 
 #[derive(Clone, PartialEq, Eq, PartialOrd, Ord, Debug)]
 pub enum Piece {
-    Atom(u16),
+    Atom(u32),
     Pair(Term, Term),
     Seal(Term, Term),
 }
@@ -52,24 +52,30 @@ pub struct Sheet {
     pub goal: usize,
 }
 
+// An atom's number (document 02, E10): all bytes that the record has after its kind, "high byte first".
+fn atom_number(record: &[u8]) -> u32 {
+    record[1..].iter().fold(0, |number, byte| number * 256 + u32::from(*byte))
+}
+
 pub fn read(s: &[u8]) -> Sheet {
     let number = |i: usize| (s[i] as usize) * 256 + s[i + 1] as usize;
     let (n, h, goal) = (number(4), number(6), number(8));
-    let kinds = (0..n).map(|i| s[number(10 + 4 * i)]).collect();
+    let record = |i: usize| &s[number(10 + 4 * i)..number(10 + 4 * i) + number(12 + 4 * i)];
     let mut terms: Vec<Term> = Vec::new();
     for i in 0..n {
         let (at, len) = (number(10 + 4 * i), number(12 + 4 * i));
         let t = |p: usize| terms[number(p)].clone();
         let new = match s[at] {
             0 => Rc::new(BTreeSet::new()),
-            1 => one(Piece::Atom(number(at + 1) as u16)),
+            1 => one(Piece::Atom(atom_number(record(i)))),
             2 => one(Piece::Pair(t(at + 1), t(at + 3))),
             3 => one(Piece::Seal(t(at + 1), t(at + 3))),
             _ => (at + 1..at + len).step_by(2).fold(Rc::new(BTreeSet::new()), |sum, p| add(&sum, &t(p))),
         };
         terms.push(new);
     }
-    let label = (0..n).filter(|i| matches!(s[number(10 + 4 * i)..], [1, high, low, ..] if high as usize * 256 + low as usize <= 255)).collect();
+    let kinds = (0..n).map(|i| record(i)[0]).collect();
+    let label = (0..n).filter(|&i| record(i)[0] == 1 && atom_number(record(i)) <= 255).collect();
     Sheet { kinds, terms, label, heard: (0..h).map(|k| number(10 + 4 * n + 2 * k)).collect(), goal }
 }
 

@@ -119,10 +119,28 @@ pub fn damage(r: &mut Random, mut s: Vec<u8>) -> Vec<u8> {
     s
 }
 
-// Document 01's table, rows 1 to 7, read a second time: row by row, with early answers and 64-bit numbers.
+// The longest sheet there can be, with this entry 0: 256 entries, of which all others are sums of 64 items, and 256 messages. A sum has entry 0 once and
+// the entry before its own 63 times, so the even entries are the same term as entry 0 and the odd ones are zero. The two entries are heard in turn.
+pub fn full_sheet(first: Entry, heard: [u16; 2], goal: u16) -> Vec<u8> {
+    let mut entries = vec![first];
+    entries.extend((1..256).map(|i| Entry::Sum([vec![0], vec![i - 1; 63]].concat())));
+    let heard: Vec<u16> = (0..256).map(|k| heard[k % 2]).collect();
+    sheet(&entries, &heard, goal)
+}
+
+// The longest sheet and the lengths of an atom's record, as document 02's E10 has them.
+pub const LONGEST: usize = 34446;
+pub const ATOM_LENGTHS: [usize; 2] = [3, 5];
+
+// The table's rows 1 to 7, read a second time: row by row, with early answers and 64-bit numbers.
 pub fn refusal(s: &[u8]) -> u32 {
+    refusal_by(s, LONGEST, &ATOM_LENGTHS)
+}
+
+// The same with another longest sheet and other lengths of an atom's record. Document 01 has 34,444, and 3 alone.
+pub fn refusal_by(s: &[u8], longest: usize, atom_lengths: &[usize]) -> u32 {
     let number = |i: usize| (s[i] as usize) * 256 + s[i + 1] as usize;
-    if s.len() < 10 || s.len() > 34446 || &s[..4] != b"SHT1" {
+    if s.len() < 10 || s.len() > longest || &s[..4] != b"SHT1" {
         return 1;
     }
     let (n, h, goal) = (number(4), number(6), number(8));
@@ -145,29 +163,34 @@ pub fn refusal(s: &[u8]) -> u32 {
         return 4;
     }
     for i in 0..n {
-        let (offset, len) = (number(10 + 4 * i), number(12 + 4 * i));
-        let good = match s[offset] {
-            0 => len == 1,
-            1 => len == 3 || len == 5,
-            2 | 3 => len == 5,
-            4 => len % 2 == 1 && (len - 1) / 2 <= 64,
-            _ => false,
-        };
-        if !good {
-            return 5;
-        }
-        if s[offset] >= 2 {
-            for p in (offset + 1..offset + len).step_by(2) {
-                if number(p) >= i {
-                    return 6;
-                }
-            }
+        let offset = number(10 + 4 * i);
+        let refused = bad_record(&s[offset..offset + number(12 + 4 * i)], i, atom_lengths);
+        if refused != 0 {
+            return refused;
         }
     }
-    for k in 0..h {
-        if number(10 + 4 * n + 2 * k) >= n {
-            return 7;
-        }
+    if (0..h).any(|k| number(10 + 4 * n + 2 * k) >= n) {
+        return 7;
+    }
+    0
+}
+
+// Rows 5 and 6 for the record of entry i.
+fn bad_record(record: &[u8], i: usize, atom_lengths: &[usize]) -> u32 {
+    let len = record.len();
+    let good = match record[0] {
+        0 => len == 1,
+        1 => atom_lengths.contains(&len),
+        2 | 3 => len == 5,
+        4 => len % 2 == 1 && (len - 1) / 2 <= 64,
+        _ => false,
+    };
+    if !good {
+        return 5;
+    }
+    let forward = |pair: &[u8]| pair[0] as usize * 256 + pair[1] as usize >= i;
+    if record[0] >= 2 && record[1..].chunks(2).any(forward) {
+        return 6;
     }
     0
 }

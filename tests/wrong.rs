@@ -5,7 +5,7 @@
 mod sheets;
 mod plain;
 use plain::{add, has, leading, single, Set, State, Tables};
-use sheets::FRONT;
+use sheets::{refusal, refusal_by, ATOM_LENGTHS, FRONT, LONGEST};
 use std::sync::OnceLock;
 
 fn fault() -> &'static str {
@@ -17,26 +17,41 @@ fn number(s: &[u8], at: usize) -> u16 {
     u16::from_be_bytes([s[at], s[at + 1]])
 }
 
+// An entry's record.
+fn record(s: &[u8], i: u16) -> &[u8] {
+    let [offset, length] = [10, 12].map(|at| usize::from(number(s, at + 4 * usize::from(i))));
+    &s[offset..offset + length]
+}
+
 fn is_atom(s: &[u8], i: u16) -> bool {
-    s[usize::from(number(s, 10 + 4 * usize::from(i)))] == 1
+    record(s, i)[0] == 1
 }
 
-fn atom(s: &[u8], i: u16) -> u16 {
-    number(s, usize::from(number(s, 10 + 4 * usize::from(i))) + 1)
+// The bytes as one number, high byte first.
+fn joined(bytes: &[u8]) -> u32 {
+    bytes.iter().fold(0, |number, byte| number << 8 | u32::from(*byte))
 }
 
-// The good sheet with other numbers for its atoms.
-fn renumbered(s: &[u8], new: impl Fn(u16) -> u16) -> Vec<u8> {
+fn atom(s: &[u8], i: u16) -> u32 {
+    joined(&record(s, i)[1..])
+}
+
+// The good sheet with other numbers for its atoms, each in the record that is there; `new` is told the record.
+fn with_numbers(s: &[u8], mut new: impl FnMut(&[u8]) -> u32) -> Vec<u8> {
     let mut t = s.to_vec();
     for i in (0..number(s, 4)).filter(|&i| is_atom(s, i)) {
-        let at = usize::from(number(s, 10 + 4 * usize::from(i))) + 1;
-        t[at..at + 2].copy_from_slice(&new(atom(s, i)).to_be_bytes());
+        let (old, at) = (record(s, i), usize::from(number(s, 10 + 4 * usize::from(i))));
+        t[at + 1..at + old.len()].copy_from_slice(&new(old).to_be_bytes()[5 - old.len()..]);
     }
     t
 }
 
+fn renumbered(s: &[u8], new: impl Fn(u32) -> u32) -> Vec<u8> {
+    with_numbers(s, |old| new(joined(&old[1..])))
+}
+
 // A number that isn't on the hull label, for one that is.
-fn hidden(a: u16) -> u16 {
+fn hidden(a: u32) -> u32 {
     if a < 256 { 30000 + a } else { a }
 }
 
@@ -118,13 +133,123 @@ fn with_shorter_buffer(s: &[u8], cut: u32, budget: u32, out: &mut [u8]) -> u32 {
     answer
 }
 
+// ---- E10: atoms of 32 bits
+
+// The good sheet as a library takes it that reads another number from an atom's record, or has another test for the label. Atoms are the same where the
+// numbers read are, and the first of them is tested. Each gets a number of its own below 512.
+fn read_as(s: &[u8], read: impl Fn(&[u8]) -> u64, public: impl Fn(&[u8]) -> bool) -> Vec<u8> {
+    let mut seen: Vec<(u64, u32)> = vec![];
+    with_numbers(s, |old| {
+        let number = read(&old[1..]);
+        if let Some((_, new)) = seen.iter().find(|(other, _)| *other == number) {
+            return *new;
+        }
+        let new = seen.len() as u32 + if public(&old[1..]) { 0 } else { 256 };
+        seen.push((number, new));
+        new
+    })
+}
+
+// The number that a faulty reader takes from the bytes after the kind. 2 to the power 32 and more is no atom's number.
+fn read_wrong(bytes: &[u8]) -> u64 {
+    let number = u64::from(joined(bytes));
+    match (fault(), bytes) {
+        ("the high half dropped", _) => number % 65536,
+        ("the first two bytes alone", _) => u64::from(joined(&bytes[..2])),
+        ("the high half kept to 8 bits", _) => number % (1 << 24),
+        ("the high half kept to 15 bits", _) => number % (1 << 31),
+        ("the low half kept to 8 bits", [_, _, _, _]) => number & !0xff00,
+        ("the low half first", &[a, b, c, d]) => joined(&[c, d, a, b]).into(),
+        ("low byte first in a long record", &[a, b, c, d]) => joined(&[d, c, b, a]).into(),
+        ("low byte first in each half", &[a, b, c, d]) => joined(&[b, a, d, c]).into(),
+        ("the high half moved by 8 bits", _) => (number >> 16 << 8) + number % 65536,
+        ("the halves summed", _) => (number >> 16) + number % 65536,
+        ("a short number with its sign", &[_, _]) => u64::from(number as u16 as i16 as u32),
+        ("long and short of one number different terms", [_, _, _, _]) => number + (1 << 32),
+        _ => number,
+    }
+}
+
+// The label test of a faulty library, on the bytes after the kind. A reader that is wrong is wrong here too.
+fn public_wrong(bytes: &[u8]) -> bool {
+    match (fault(), bytes) {
+        ("the label test on the low 16 bits", _) => joined(bytes) % 65536 < 256,
+        ("the label test on the first two bytes", _) => joined(&bytes[..2]) < 256,
+        ("the label test on a signed number", _) => (joined(bytes) as i32) < 256,
+        ("no name in a long record", [_, _, _, _]) => false,
+        ("long and short of one number different terms", _) => joined(bytes) < 256,
+        _ => read_wrong(bytes) < 256,
+    }
+}
+
+// The good sheet as a library takes it that has an atom's kind 16 bits above its number: atom 65,536 + 256 · l + r is then the pair of entries l and r,
+// and with 131,072 it is their seal.
+fn kind_over_16_bits(s: &[u8]) -> Vec<u8> {
+    let mut t = s.to_vec();
+    for i in 0..number(s, 4) {
+        let at = usize::from(number(s, 10 + 4 * usize::from(i)));
+        if let &[1, 0, high @ 1..=2, left, right] = record(s, i) {
+            if u16::from(left.max(right)) < i {
+                t[at..at + 5].copy_from_slice(&[1 + high, 0, left, 0, right]);
+            }
+        }
+    }
+    t
+}
+
+// The sheet with a long record for each atom that isn't in a short one: its last four bytes, or zeros and those that there are. Its places are good.
+fn mended(s: &[u8]) -> Vec<u8> {
+    let (n, h) = (number(s, 4), number(s, 6));
+    let records: Vec<Vec<u8>> = (0..n)
+        .map(|i| match record(s, i) {
+            [1, bytes @ ..] if bytes.len() != 2 => [&[1][..], &joined(bytes).to_be_bytes()].concat(),
+            other => other.to_vec(),
+        })
+        .collect();
+    let lists = 10 + 4 * usize::from(n);
+    let (mut t, mut at) = (s[..lists + 2 * usize::from(h)].to_vec(), lists + 2 * usize::from(h));
+    for (i, new) in records.iter().enumerate() {
+        t[10 + 4 * i..12 + 4 * i].copy_from_slice(&(at as u16).to_be_bytes());
+        t[12 + 4 * i..14 + 4 * i].copy_from_slice(&(new.len() as u16).to_be_bytes());
+        at += new.len();
+    }
+    [t, records.concat()].concat()
+}
+
+// Rows 1 to 7 where a long record's halves are taken for entry numbers.
+fn halves_as_entries(s: &[u8]) -> u32 {
+    let refused = refusal(s);
+    if matches!(refused, 1..=4) {
+        return refused;
+    }
+    let mut t = s.to_vec();
+    for i in (0..number(s, 4)).filter(|&i| is_atom(s, i) && record(s, i).len() == 5) {
+        t[usize::from(number(s, 10 + 4 * usize::from(i)))] = 2;
+    }
+    refusal(&t)
+}
+
+// Rows 1 to 7 as a faulty table has them.
+fn table(s: &[u8]) -> u32 {
+    let odd: Vec<usize> = (1..130).step_by(2).collect();
+    match fault() {
+        "34,444 kept" => refusal_by(s, 34444, &ATOM_LENGTHS),
+        "34,445 the longest" => refusal_by(s, 34445, &ATOM_LENGTHS),
+        "34,447 the longest" => refusal_by(s, 34447, &ATOM_LENGTHS),
+        "length 5 refused" => refusal_by(s, LONGEST, &[3]),
+        "length 3 refused" => refusal_by(s, LONGEST, &[5]),
+        "length 4 let through" => refusal_by(s, LONGEST, &[3, 4, 5]),
+        "length 6 let through" => refusal_by(s, LONGEST, &[3, 5, 6]),
+        "every odd length let through" => refusal_by(s, LONGEST, &odd),
+        "a long number taken for entry numbers" => halves_as_entries(s),
+        _ => refusal(s),
+    }
+}
+
 // ---- the whole call
 
-// The verdict on the sheet as a library with a faulty start or sum test would take it.
-fn verdict(s: &[u8], cut: u32, budget: u32, out: &mut [u8]) -> u32 {
-    if sheets::refusal(s) != 0 || cut > u32::from(number(s, 6)) {
-        return plain::verdict(s, cut, budget, out);
-    }
+// The verdict on a good sheet as a library with a faulty start, sum test or reader of atoms would take it.
+fn judged(s: &[u8], cut: u32, budget: u32, out: &mut [u8]) -> u32 {
     match fault() {
         "one name too few" => plain::verdict(&renumbered(s, |a| if a == 255 { 30000 } else { a }), cut, budget, out),
         "one name too many" => plain::verdict(&renumbered(s, |a| if a == 256 { 128 } else { a }), cut, budget, out),
@@ -134,8 +259,21 @@ fn verdict(s: &[u8], cut: u32, budget: u32, out: &mut [u8]) -> u32 {
             plain::verdict(&late, number(&late, 6).into(), budget, out)
         }
         "refusal 10 still at 32" => with_shorter_buffer(s, cut, budget, out),
-        _ => plain::verdict_missing(s, cut, budget, out, missing),
+        "the kind 16 bits above the number" => plain::verdict(&kind_over_16_bits(s), cut, budget, out),
+        _ => plain::verdict_missing(&read_as(s, read_wrong, public_wrong), cut, budget, out, missing),
     }
+}
+
+fn verdict(s: &[u8], cut: u32, budget: u32, out: &mut [u8]) -> u32 {
+    let refused = table(s);
+    if refused != 0 {
+        return refused;
+    }
+    let s = mended(s);
+    if cut > u32::from(number(&s, 6)) {
+        return 8;
+    }
+    judged(&s, cut, budget, out)
 }
 
 // The second and the third word of a set's 32 bytes.
