@@ -690,7 +690,7 @@ fn longest(t: &mut Tally) {
 
 // A number whose halves are among a few, so that numbers share halves and bytes.
 fn few_halves(r: &mut Random) -> u32 {
-    let mut half = || [0, 0, 0, 1, 7, 256, 0x0700, 65535][r.below(8) as usize];
+    let mut half = || [0, 0, 0, 1, 7, 256, 0x8000, 65535][r.below(8) as usize];
     half() << 16 | half()
 }
 

@@ -1,5 +1,5 @@
-// Libraries that are wrong on purpose, by the plain Rust verdict with a fault put in: the brute-force test has to fail on each of them, and
-// to pass on the one without a fault. The environment variable FAULT chooses the fault.
+// Libraries that are wrong on purpose, by the plain Rust verdict with a fault put in: the brute-force test has to fail on each of them, the test of the
+// refusals on those with a fault in the table, and both have to pass on the one without a fault. The environment variable FAULT chooses the fault.
 
 #[allow(dead_code)]
 mod sheets;
@@ -332,4 +332,9 @@ pub unsafe extern "C" fn zuwendryk_verdict(sheet: *const u8, sheet_len: usize, c
         }
         _ => answer,
     }
+}
+
+#[no_mangle]
+pub unsafe extern "C" fn zuwendryk_validate(sheet: *const u8, len: usize) -> u32 {
+    table(std::slice::from_raw_parts(sheet, len))
 }
