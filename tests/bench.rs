@@ -78,7 +78,8 @@ fn card(name: &str, (entries, heard, goal): Parts) {
 
 fn main() {
     // `mixed` and `stuck` end out of reach, and so does every cut of the two cards: since request E5 such a call makes one sum test more, of the goal.
-    let kinds: [(&str, fn(usize) -> Parts); 7] = [
+    // `serials` is `names` with every atom in the long record of request E10.
+    let kinds: [(&str, fn(usize) -> Parts); 8] = [
         ("joins", kinds::joins),
         ("sums", kinds::sums),
         ("seals", kinds::seals),
@@ -86,6 +87,7 @@ fn main() {
         ("stuck", kinds::stuck),
         ("random", kinds::random),
         ("names", kinds::names),
+        ("serials", kinds::serials),
     ];
     println!("                              plain Rust, us            ratio to");
     println!("sheet       n   library us   by value       lent   by value   lent   verdict and rungs");

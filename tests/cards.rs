@@ -36,12 +36,22 @@ pub fn card_of(sheet: &[u8]) -> String {
     text
 }
 
+// An atom on the hull label, one whose other number fits the short record, or one whose number doesn't. Those that fit it have the long one now and then.
+fn any_atom(r: &mut Random) -> Entry {
+    let number = match r.below(8) {
+        0 => r.below(256),
+        1..=4 => 256 + r.below(65536 - 256),
+        _ => 65536 + r.below((1 << 32) - 65536),
+    } as u32;
+    if r.below(4) == 0 { Entry::Long(number) } else { Entry::Atom(number) }
+}
+
 // A good sheet with many entries, long sums and many heard messages.
 pub fn large(r: &mut Random) -> Vec<u8> {
     let n = 200 + r.below(57);
     let entries: Vec<Entry> = (0..n)
         .map(|i| match (i, r.below(4)) {
-            (0, _) | (_, 0) => Entry::Atom(if r.below(8) == 0 { r.below(256) } else { 256 + r.below(65280) } as u32),
+            (0, _) | (_, 0) => any_atom(r),
             (_, 1) => Entry::Pair(r.below(i) as u16, r.below(i) as u16),
             (_, 2) => Entry::Seal(r.below(i) as u16, r.below(i) as u16),
             _ => Entry::Sum((0..r.below(65)).map(|_| r.below(i) as u16).collect()),

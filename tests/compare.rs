@@ -7,7 +7,7 @@ mod sheets;
 #[allow(dead_code)]
 mod kinds;
 use kinds::Parts;
-use sheets::{damage, random_entries, sheet, Random, FRONT};
+use sheets::{damage, entries_over, full_sheet, refusal, refusal_by, sheet, Entry, Random, FRONT};
 use std::process::Command;
 
 extern "C" {
@@ -28,56 +28,96 @@ fn earlier(s: &[u8], cut: u32, budget: u32, out: &mut [u8]) -> u32 {
 
 // ---- answers and bytes
 
-// What the change leaves alone, to be said anew for each change. Request E5 leaves every sheet alone. It makes the front of the buffer longer: used
-// set and remainder stand between the gained set and the rungs, and are zero unless the goal is out of reach.
-const EARLIER_FRONT: usize = 32;
+// What the change leaves alone, to be said anew for each change. Request E10 lets an atom's record have length 5 and a sheet 34,446 bytes, and nothing
+// else. So answers and buffers are the earlier ones on each sheet of at most 34,444 bytes in whose records, as far as the table looks, no atom has length 5.
+//
+// A damaged sheet may be another. It is left out where the two tables, the earlier and the present, give different numbers, and this is exact: there the
+// answers have to differ. Where both refuse the sheet with one number, each library has to answer it. Where neither refuses it, the earlier table says that
+// it has at most 34,444 bytes and no atom of length 5. Whether it is left out or not, each library is held to its own table.
+fn refusal_earlier(s: &[u8]) -> u32 {
+    refusal_by(s, 34444, &[3])
+}
 
 #[derive(Default)]
 struct Tally {
     verdicts: [u64; 4], // refused, reached, out of reach, stopped
+    sheets: u64,
+    left_out: u64,
     failed: u64,
 }
 
-// Does a call's buffer have what the earlier one has, later by the bytes that the front has grown?
-fn alike(answer: u32, out: &[u8], earlier: &[u8]) -> bool {
-    let new = &out[EARLIER_FRONT..FRONT];
-    out[..EARLIER_FRONT] == earlier[..EARLIER_FRONT] && out[FRONT..] == earlier[EARLIER_FRONT..] && (answer / 1000 == 2 || new.iter().all(|&b| b == 0))
-}
-
 impl Tally {
-    // One call of each, with the same bytes behind its front. A short buffer lacks the last of them.
-    fn call(&mut self, s: &[u8], cut: u32, budget: u32, behind: usize, short: bool) {
-        let pattern = |front: usize| (0..front).map(|i| (i * 91 + 5) as u8).chain((0..behind).map(|i| (i * 37 + 11) as u8));
-        let before = [FRONT, EARLIER_FRONT].map(|front| pattern(front).take(front + behind - usize::from(short)).collect::<Vec<u8>>());
-        let [mut out, mut out_earlier] = before.clone();
-        let answers = [now(s, cut, budget, &mut out), earlier(s, cut, budget, &mut out_earlier)];
-        self.verdicts[(answers[0] / 1000).min(3) as usize] += 1;
-        let outs = [out, out_earlier];
-        let bytes = if answers[0] < 1000 { outs == before } else { !short && alike(answers[0], &outs[0], &outs[1]) };
-        if answers[0] != answers[1] || !bytes {
-            self.failed += 1;
-            if self.failed < 10 {
-                println!("sheet {s:?} cut {cut} budget {budget}, {behind} bytes behind the front, short: {short}: answers {answers:?}, bytes as they should be: {bytes}");
-            }
+    fn fail(&mut self, what: &str) {
+        self.failed += 1;
+        if self.failed < 10 {
+            println!("{what}");
         }
     }
 
-    // One sheet: whether it is good, and verdicts at several cuts, budgets and lengths.
+    // One call of each, with the same bytes in its buffer.
+    fn call(&mut self, s: &[u8], cut: u32, budget: u32, length: usize) {
+        let before: Vec<u8> = (0..length).map(|i| (i * 37 + 11) as u8).collect();
+        let mut outs = [before.clone(), before.clone()];
+        let answers = [now(s, cut, budget, &mut outs[0]), earlier(s, cut, budget, &mut outs[1])];
+        self.verdicts[(answers[0] / 1000).min(3) as usize] += 1;
+        let kept = answers[0] >= 1000 || outs[0] == before;
+        if answers[0] != answers[1] || outs[0] != outs[1] || !kept {
+            let same = outs[0] == outs[1];
+            self.fail(&format!("sheet {s:?} cut {cut} budget {budget}, {length} bytes: answers {answers:?}, same bytes: {same}, kept where refused: {kept}"));
+        }
+    }
+
+    // One sheet: whether it is good, and, unless it is left out, verdicts at several cuts, budgets and lengths.
     fn sheet(&mut self, s: &[u8], r: &mut Random) {
+        self.sheets += 1;
         let validated = unsafe { [zuwendryk_validate(s.as_ptr(), s.len()), earlier_validate(s.as_ptr(), s.len())] };
-        if validated[0] != validated[1] {
-            self.failed += 1;
-            println!("sheet {s:?}: validate now {}, earlier {}", validated[0], validated[1]);
+        let tables = [refusal(s), refusal_earlier(s)];
+        if validated != tables {
+            self.fail(&format!("sheet {s:?}: validate now and earlier {validated:?}, by the tables {tables:?}"));
+        }
+        if tables[0] != tables[1] {
+            self.left_out += 1;
+            return;
         }
         let h = if s.len() >= 8 { u32::from(u16::from_be_bytes([s[6], s[7]])).min(256) } else { 0 };
         for cut in [0, h / 3, h, h + 1] {
             for budget in [0, 1 + r.below(8) as u32, r.below(256) as u32, 256, 257] {
-                let (rungs, short) = (40 * budget.min(256) as usize, r.below(8) == 0);
-                let more = if short { 0 } else { r.below(50) as usize };
-                self.call(s, cut, budget, rungs + more, short);
+                let enough = FRONT + 40 * budget.min(256) as usize;
+                self.call(s, cut, budget, if r.below(8) == 0 { enough - 1 } else { enough + r.below(50) as usize });
             }
         }
     }
+
+    // A good sheet that the change leaves alone; the same with an atom of length 5, which it doesn't; and a damaged one, of which either may hold.
+    fn all(&mut self, good: Vec<u8>, r: &mut Random) {
+        let left_out = self.left_out;
+        self.sheet(&good, r);
+        if self.left_out > left_out || refusal(&good) != 0 {
+            self.fail(&format!("sheet {good:?} is refused or left out"));
+        }
+        if let Some(long) = with_long_record(&good) {
+            self.sheet(&long, r);
+        }
+        let bad = damage(r, good);
+        self.sheet(&bad, r);
+    }
+}
+
+// The good sheet with an atom in the place of its first pair or seal, whose record has the long record's length. There may be none.
+fn with_long_record(s: &[u8]) -> Option<Vec<u8>> {
+    let number = |at: usize| usize::from(u16::from_be_bytes([s[at], s[at + 1]]));
+    let at = (0..number(4)).map(|i| number(10 + 4 * i)).find(|&at| matches!(s[at], 2 | 3))?;
+    Some([&s[..at], &[1], &s[at + 1..]].concat())
+}
+
+// Atom numbers that fit the short record: two of atoms on the hull label, two that have a byte of these, the last, and two more.
+const SHORT: [u32; 7] = [0, 255, 256, 65280, 1000, 1001, 65535];
+
+// A random sheet whose atoms have short records.
+fn short_records(r: &mut Random, most: u64) -> Vec<u8> {
+    let (entries, heard, goal) = entries_over(r, most, &SHORT);
+    let short = |e: Entry| if let Entry::Long(a) = e { Entry::Atom(a) } else { e };
+    sheet(&entries.into_iter().map(short).collect::<Vec<Entry>>(), &heard, goal)
 }
 
 fn made((entries, heard, goal): Parts) -> Vec<u8> {
@@ -86,22 +126,21 @@ fn made((entries, heard, goal): Parts) -> Vec<u8> {
 
 fn answers(t: &mut Tally) {
     let mut r = Random(0x9e3779b97f4a7c15);
-    let mut both = |good: Vec<u8>, r: &mut Random| {
-        t.sheet(&good, r);
-        let bad = damage(r, good);
-        t.sheet(&bad, r);
-    };
     for _ in 0..4000 {
-        both(made(random_entries(&mut r, 12)), &mut r);
+        t.all(short_records(&mut r, 12), &mut r);
     }
     for seed in 0..2400 {
         let n = 8 + r.below(249) as usize;
-        both(made([kinds::drawn, kinds::labelled, kinds::lacking][seed as usize % 3](n, seed)), &mut r);
+        t.all(made([kinds::drawn, kinds::labelled, kinds::lacking][seed as usize % 3](n, seed)), &mut r);
     }
     for kind in [kinds::joins, kinds::sums, kinds::seals, kinds::mixed, kinds::stuck, kinds::names, kinds::longest] {
         for n in (32..=256).step_by(2) {
-            both(made(kind(n)), &mut r);
+            t.all(made(kind(n)), &mut r);
         }
+    }
+    // of 34,444 bytes, and damaged now and then of one or two more
+    for i in 0..100 {
+        t.all(full_sheet(Entry::Atom(1001), [255, 254], i), &mut r);
     }
 }
 
@@ -156,8 +195,9 @@ fn main() {
     answers(&mut t);
     let [refused, reached, out, stopped] = t.verdicts;
     let calls = refused + reached + out + stopped;
+    println!("compare: {} sheets, of which {} are left out, since the change has another answer for them", t.sheets, t.left_out);
     println!("compare: {calls} calls, {reached} reached, {out} out of reach, {stopped} stopped, {refused} refused; {} failed", t.failed);
-    if t.failed > 0 || t.verdicts.iter().any(|&v| v < 1000) {
+    if t.failed > 0 || t.verdicts.iter().any(|&v| v < 10_000) || t.left_out < 1000 {
         std::process::exit(1);
     }
     times(&std::env::args().skip(1).collect::<Vec<String>>());

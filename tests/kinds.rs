@@ -1,5 +1,5 @@
 // Kinds of sheets for the benchmarks: each takes a number of entries and gives entries, heard messages and goal. The cut is the number of messages.
-// Atoms have numbers from 1,000 on, but for those of `names`, `labelled` and `lacking`.
+// Atoms have short records, but for those of `serials`, and numbers from 1,000 on, but for those of `names`, `serials`, `labelled` and `lacking`.
 
 use super::sheets::{Entry, Random};
 
@@ -66,6 +66,17 @@ pub fn names(n: usize) -> Parts {
     entries.extend((0..quarter).map(atom));
     entries.extend((0..quarter).map(|i| Entry::Sum(vec![i, half + i])));
     (entries, (half + quarter..half + 2 * quarter).collect(), half + quarter - 1)
+}
+
+// As names, but every atom has the long record, and the secrets' numbers differ in their high halves alone.
+pub fn serials(n: usize) -> Parts {
+    let (entries, heard, goal) = names(n);
+    let long = |e: Entry| match e {
+        Entry::Atom(a) if a < 256 => Entry::Long(a),
+        Entry::Atom(a) => Entry::Long(a << 16),
+        _ => e,
+    };
+    (entries.into_iter().map(long).collect(), heard, goal)
 }
 
 // Entries of every kind drawn at random, half as many messages as entries, and a goal that is none of them.

@@ -82,14 +82,14 @@ fn list(entries: &[u16], between: &str, empty: &str) -> String {
 
 // One constant an atom and one an entry. An entry's term is made once and shared (memo).
 fn declarations(entries: &[Entry]) -> String {
-    let mut atoms: Vec<u16> = entries.iter().filter_map(|e| if let Entry::Atom(a) = e { Some(*a) } else { None }).collect();
+    let mut atoms: Vec<u32> = entries.iter().filter_map(|e| if let Entry::Atom(a) | Entry::Long(a) = e { Some(*a) } else { None }).collect();
     atoms.sort();
     atoms.dedup();
     let mut text: String = atoms.iter().map(|a| format!("  op a{a} : -> Base [ctor] .\n")).collect();
     for (i, e) in entries.iter().enumerate() {
         let term = match e {
             Entry::Zero => "zero".to_string(),
-            Entry::Atom(a) => format!("a{a}"),
+            Entry::Atom(a) | Entry::Long(a) => format!("a{a}"),
             Entry::Pair(l, r) => format!("pair(e{l}, e{r})"),
             Entry::Seal(m, k) => format!("seal(e{m}, e{k})"),
             Entry::Sum(items) => list(items, " + ", "zero"),
@@ -103,7 +103,7 @@ fn declarations(entries: &[Entry]) -> String {
 fn module((entries, heard, goal): &Parts, form: &str) -> String {
     let sum = if form == "eliminate" { SUM_BY_ELIMINATION } else { SUM_BY_SEARCH };
     let all: Vec<u16> = (0..entries.len() as u16).collect();
-    let public = all.iter().copied().filter(|e| matches!(entries[usize::from(*e)], Entry::Atom(0..=255)));
+    let public = all.iter().copied().filter(|e| matches!(entries[usize::from(*e)], Entry::Atom(0..=255) | Entry::Long(0..=255)));
     let known: Vec<u16> = public.chain(heard.iter().copied()).collect();
     let start = format!("st({}, {}, e{goal})", list(&known, " ; ", "none"), list(&all, " ; ", "none"));
     let question = if form == "search" { format!("search [1] {start} =>* reached .") } else { format!("rewrite {start} .") };
@@ -248,13 +248,14 @@ fn main() {
     println!("maude starts and ends in {:.1} ms; timeout {} s", start_up(), LIMIT.as_secs());
     println!("{:39}{:>19}{:>18}{:>18}", "", "search ms", "rewrite ms", "eliminate ms");
     println!("{:10} {:>4} {:>12} {:>11}{}", "sheet", "n", "verdict", "library us", "      whole     own".repeat(3));
-    let kinds: [(&str, fn(usize) -> Parts); 9] = [
+    let kinds: [(&str, fn(usize) -> Parts); 10] = [
         ("joins", kinds::joins),
         ("chain", kinds::chain),
         ("sums", kinds::sums),
         ("seals", kinds::seals),
         ("mixed", kinds::mixed),
         ("stuck", kinds::stuck),
+        ("serials", kinds::serials),
         ("random", kinds::random),
         ("random b", |n| kinds::drawn(n, 2)),
         ("random c", |n| kinds::drawn(n, 3)),

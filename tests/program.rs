@@ -1,12 +1,13 @@
-// The program, run on sheets and compared with their cards: those of the flight card and each kind of line, refused input, and random small
-// sheets whose card is made from the reading of document 01. Standard error has the hint for text, or nothing. The program's path is the first argument.
+// The program, run on sheets and compared with their cards: those of the flight card and each kind of line, long atom records, the longest sheet, refused
+// input, and random small sheets whose card is made from the reading of documents 01 and 02. A stated card is compared with the reading's too. Standard
+// error has the hint for text, or nothing. The program's path is the first argument.
 
 #[allow(dead_code)] // each test uses a part
 mod sheets;
 #[allow(dead_code)]
 mod reading;
 use reading::{read, work, Answer};
-use sheets::{damage, random_entries, refusal, sheet, Entry, Random};
+use sheets::{damage, full_sheet, random_entries, refusal, sheet, Entry, Random, LONGEST};
 use std::io::Write;
 use std::process::{Command, Stdio};
 
@@ -66,59 +67,132 @@ fn card(s: &[u8]) -> String {
     text
 }
 
-fn main() {
-    use Entry::*;
-    let program = std::env::args().nth(1).expect("the program's path");
-    let (mut passed, mut failed) = (0, 0);
-    let mut check = |what: &str, input: &[u8], want: &str| {
-        let (got, said) = run(&program, input);
-        if got == want && said == hint(input) {
-            passed += 1;
+struct Checks {
+    program: String,
+    passed: u32,
+    failed: u32,
+}
+
+impl Checks {
+    fn check(&mut self, what: &str, input: &[u8], want: &str) {
+        let (got, said) = run(&self.program, input);
+        let read = card(input);
+        if got == want && said == hint(input) && read == want {
+            self.passed += 1;
         } else {
-            failed += 1;
-            println!("{what}: printed\n{got}wanted\n{want}and said {said:?}");
+            self.failed += 1;
+            println!("{what}: printed\n{got}wanted\n{want}and said {said:?}; by the reading\n{read}");
         }
-    };
-    let a = sheet(&[Atom(1007), Atom(1009), Sum(vec![0, 1]), Atom(1012), Seal(3, 0)], &[2, 4, 1], 3);
-    check(
+    }
+}
+
+// The flight card's sheet A.
+fn sheet_a() -> Vec<u8> {
+    use Entry::*;
+    sheet(&[Atom(1007), Atom(1009), Sum(vec![0, 1]), Atom(1012), Seal(3, 0)], &[2, 4, 1], 3)
+}
+
+fn cards(c: &mut Checks) {
+    use Entry::*;
+    c.check(
         "sheet A",
-        &a,
+        &sheet_a(),
         "goal 3 heard 3\ncut 0 out of reach known 0\ncut 1 out of reach known 1\ncut 2 out of reach known 2\ncut 3 reached rungs 2\nrung 0 sum 1 2\nrung 3 open 4 0\n",
     );
-    check("a sum of nothing", &sheet(&[Zero], &[], 0), "goal 0 heard 0\ncut 0 reached rungs 1\nrung 0 sum\n");
-    check("never reached", &sheet(&[Atom(1001), Seal(0, 0)], &[1], 0), "goal 0 heard 1\ncut 0 out of reach known 0\ncut 1 out of reach known 1\n");
-    check("the goal's own entry is printed", &sheet(&[Atom(1001), Sum(vec![0])], &[0], 1), "goal 1 heard 1\ncut 0 out of reach known 0\ncut 1 reached rungs 0\n");
-    check(
+    c.check("a sum of nothing", &sheet(&[Zero], &[], 0), "goal 0 heard 0\ncut 0 reached rungs 1\nrung 0 sum\n");
+    c.check("never reached", &sheet(&[Atom(1001), Seal(0, 0)], &[1], 0), "goal 0 heard 1\ncut 0 out of reach known 0\ncut 1 out of reach known 1\n");
+    c.check("the goal's own entry is printed", &sheet(&[Atom(1001), Sum(vec![0])], &[0], 1), "goal 1 heard 1\ncut 0 out of reach known 0\ncut 1 reached rungs 0\n");
+    c.check(
         "each rule",
         // k, m, p = (m, k), q = (p, p), s = seal of q under k, goal = (s, sum of m and k), heard: the seal and the key, then the parts come out
         &sheet(&[Atom(1001), Atom(1002), Pair(1, 0), Pair(2, 2), Seal(3, 0), Sum(vec![0, 1]), Pair(4, 5), Seal(6, 1)], &[4, 0], 7),
         "goal 7 heard 2\ncut 0 out of reach known 0\ncut 1 out of reach known 1\ncut 2 reached rungs 6\nrung 3 open 4 0\nrung 2 left 3\nrung 1 left 2\nrung 5 sum 0 1\nrung 6 join 4 5\nrung 7 seal 6 1\n",
     );
-    check(
+    c.check(
         "the right of a pair",
         &sheet(&[Atom(1001), Atom(1002), Pair(0, 1)], &[2], 1),
         "goal 1 heard 1\ncut 0 out of reach known 0\ncut 1 reached rungs 2\nrung 0 left 2\nrung 1 right 2\n",
     );
-    check("a name on the hull label", &sheet(&[Atom(1000), Atom(255)], &[0], 1), "goal 1 heard 1\ncut 0 reached rungs 0\n");
-    check(
+    c.check("a name on the hull label", &sheet(&[Atom(1000), Atom(255)], &[0], 1), "goal 1 heard 1\ncut 0 reached rungs 0\n");
+    c.check(
         "a sum that draws on the hull label",
         &sheet(&[Atom(1000), Atom(0), Atom(0), Sum(vec![0, 2])], &[3], 0),
         "goal 0 heard 1\ncut 0 out of reach known 1\ncut 1 reached rungs 1\nrung 0 sum 1 3\n",
     );
-    check("no input", &[], "refused 1\n");
-    check("another file", b"hello, world\n", "refused 1\n");
-    check("a trailing byte", &[a.clone(), vec![0]].concat(), "refused 4\n");
-    check("an item equal to its own entry", &sheet(&[Zero, Sum(vec![1])], &[], 0), "refused 6\n");
-    check("far too long", &[a, vec![0; 100_000]].concat(), "refused 1\n");
+}
+
+// Atoms in the long record (document 02, E10).
+fn long_records(c: &mut Checks) {
+    use Entry::*;
+    let both = [Atom(1000), Long(1000), Sum(vec![0, 1])];
+    c.check("heard in the short record, the goal in the long one", &sheet(&both, &[0], 1), "goal 1 heard 1\ncut 0 out of reach known 1\ncut 1 reached rungs 0\n");
+    c.check("heard in the long record, the goal in the short one", &sheet(&both[..2], &[1], 0), "goal 0 heard 1\ncut 0 out of reach known 0\ncut 1 reached rungs 0\n");
+    c.check("the sum of both records is zero", &sheet(&both, &[], 2), "goal 2 heard 0\ncut 0 reached rungs 1\nrung 2 sum\n");
+    c.check("7 in the long record is on the label", &sheet(&[Long(7)], &[], 0), "goal 0 heard 0\ncut 0 reached rungs 0\n");
+    c.check("65,543 isn't", &sheet(&[Long(65543)], &[], 0), "goal 0 heard 0\ncut 0 out of reach known 0\n");
+    c.check(
+        "65,543 masked with 7",
+        &sheet(&[Long(7), Long(65543), Sum(vec![0, 1])], &[2], 1),
+        "goal 1 heard 1\ncut 0 out of reach known 1\ncut 1 reached rungs 1\nrung 1 sum 0 2\n",
+    );
+    c.check(
+        "a seal under 4,294,967,295 isn't opened by 65,535",
+        &sheet(&[Atom(1000), Long(4294967295), Atom(65535), Seal(0, 1)], &[3, 2, 1], 0),
+        "goal 0 heard 3\ncut 0 out of reach known 0\ncut 1 out of reach known 1\ncut 2 out of reach known 2\ncut 3 reached rungs 1\nrung 0 open 3 1\n",
+    );
+    for length in [1, 2, 4, 6, 7] {
+        c.check("an atom of another length", &sheet(&[Raw(vec![1; length])], &[], 0), "refused 5\n");
+    }
+}
+
+// The longest sheet, of 34,446 bytes, and one byte more or fewer. Its messages are zero and its atom in turn, or zero alone.
+fn longest(c: &mut Checks) {
+    let full = |first: Entry, heard: [u16; 2]| full_sheet(first, heard, 0);
+    let (long, short) = (full(Entry::Long(65536 + 1000), [255, 254]), full(Entry::Atom(1000), [255, 254]));
+    assert_eq!(long.len(), LONGEST);
+    let want = "goal 0 heard 256\ncut 0 out of reach known 1\ncut 1 out of reach known 1\ncut 2 reached rungs 0\n";
+    c.check("the longest sheet", &long, want);
+    c.check("the longest with a short record", &short, want);
+    c.check("the longest sheet, a name", &full(Entry::Long(7), [255, 254]), "goal 0 heard 256\ncut 0 reached rungs 0\n");
+    let every_cut: String = (0..=256).map(|cut| format!("cut {cut} out of reach known 1\n")).collect();
+    c.check("the longest sheet, never reached", &full(Entry::Long(65536 + 1000), [255, 255]), &format!("goal 0 heard 256\n{every_cut}"));
+    c.check("the longest sheet and one byte", &[&long[..], &[0]].concat(), "refused 1\n");
+    c.check("the longest sheet and a second one", &[&long[..], &long[..]].concat(), "refused 1\n");
+    c.check("the longest sheet without its last byte", &long[..34445], "refused 4\n");
+    c.check("34,445 bytes with one left over", &[&short[..], &[0]].concat(), "refused 4\n");
+    c.check("34,446 bytes with two left over", &[&short[..], &[0, 0]].concat(), "refused 4\n");
+    c.check("34,447 bytes with three left over", &[&short[..], &[0, 0, 0]].concat(), "refused 1\n");
+}
+
+fn refused(c: &mut Checks) {
+    use Entry::*;
+    let a = sheet_a();
+    c.check("no input", &[], "refused 1\n");
+    c.check("another file", b"hello, world\n", "refused 1\n");
+    c.check("a trailing byte", &[a.clone(), vec![0]].concat(), "refused 4\n");
+    c.check("an item equal to its own entry", &sheet(&[Zero, Sum(vec![1])], &[], 0), "refused 6\n");
+    c.check("far too long", &[a, vec![0; 100_000]].concat(), "refused 1\n");
+}
+
+fn random_sheets(c: &mut Checks) {
     let mut r = Random(0x853c49e6748fea9b);
     for _ in 0..400 {
         let (entries, heard, goal) = random_entries(&mut r, 9);
         let whole = sheet(&entries, &heard, goal);
         let s = if r.below(4) == 0 { damage(&mut r, whole) } else { whole };
-        check("a random sheet", &s, &card(&s));
+        c.check("a random sheet", &s, &card(&s));
     }
-    println!("program: {passed} passed, {failed} failed");
-    if failed > 0 {
+}
+
+fn main() {
+    let mut c = Checks { program: std::env::args().nth(1).expect("the program's path"), passed: 0, failed: 0 };
+    cards(&mut c);
+    long_records(&mut c);
+    longest(&mut c);
+    refused(&mut c);
+    random_sheets(&mut c);
+    println!("program: {} passed, {} failed", c.passed, c.failed);
+    if c.failed > 0 {
         std::process::exit(1);
     }
 }
