@@ -99,7 +99,8 @@ impl Tally {
         if got != number || area[16..16 + length] != buffer[..] || !guarded {
             let places = (0..length).filter(|&i| area[16 + i] != buffer[i]).take(4).collect::<Vec<usize>>();
             let sheet = if s.len() < 200 { format!("{s:?}") } else { format!("of {} bytes", s.len()) };
-            self.fail(&format!("{what}: library {got}, text {number}, bytes differ at {places:?}, guards kept: {guarded}; cut {cut} budget {budget} length {length} sheet {sheet}"));
+            let call = format!("cut {cut} budget {budget} length {length} sheet {sheet}");
+            self.fail(&format!("{what}: library {got}, text {number}, bytes differ at {places:?}, guards kept: {guarded}; {call}"));
         }
     }
 
@@ -625,24 +626,25 @@ fn no_other_kind(t: &mut Tally) {
         t.case(what, &sheet(entries, heard, goal), heard.len() as u32, 256, ROOM, want);
     };
     for high in [1, 2, 0x0100, 0x0200, 0xffff] {
-        let entries = [Atom(1000), Atom(1001), Long(high << 16 | 1), Pair(0, 1), Seal(0, 1)];
-        case("an atom with entry numbers in its number isn't split", &entries, &[2], 0, 2000);
-        case("an atom with entry numbers in its number isn't split right", &entries, &[2], 1, 2000);
-        case("an atom with entry numbers in its number isn't opened", &entries, &[2, 1], 0, 2000);
-        case("an atom with entry numbers in its number isn't made", &entries, &[0, 1], 2, 2002);
-        case("the pair isn't that atom", &entries, &[2], 3, 2000);
-        case("the seal isn't that atom", &entries, &[2], 4, 2000);
+        let a = high << 16 | 1;
+        let entries = [Atom(1000), Atom(1001), Long(a), Pair(0, 1), Seal(0, 1)];
+        case(&format!("{a:#x} isn't split"), &entries, &[2], 0, 2000);
+        case(&format!("{a:#x} isn't split right"), &entries, &[2], 1, 2000);
+        case(&format!("{a:#x} isn't opened"), &entries, &[2, 1], 0, 2000);
+        case(&format!("{a:#x} isn't joined or sealed"), &entries, &[0, 1], 2, 2002);
+        case(&format!("{a:#x} isn't the pair"), &entries, &[2], 3, 2000);
+        case(&format!("{a:#x} isn't the seal"), &entries, &[2], 4, 2000);
     }
     case("the bytes of a pair of entries 1 and 0", &[Atom(1000), Atom(1001), Long(1 << 16)], &[2], 0, 2000);
     case("the bytes of a pair of entries 0 and 1, of a name", &[Atom(1000), Atom(1001), Long(1)], &[], 0, 2000);
     for a in [1 << 16, 3 << 16, 4 << 16, 1 << 24, 3 << 24, 4 << 24, 0xffff_0000, 0xfffd_0000, 0xfffc_0000, 0xff00_0000, 1 << 31] {
-        case("an atom isn't zero", &[Long(a)], &[], 0, 2000);
-        case("an atom isn't zero, which stands beside it", &[Zero, Long(a), Sum(vec![0])], &[], 1, 2001);
+        case(&format!("{a:#x} isn't zero"), &[Long(a)], &[], 0, 2000);
+        case(&format!("{a:#x} isn't zero, which stands beside it"), &[Zero, Long(a), Sum(vec![0])], &[], 1, 2001);
     }
     case("number 0 in the long record", &[Long(0)], &[], 0, 1000);
     for a in [0x0000_ffff, 0x0001_0000, 0x0001_0001, 0x0100_0100, 0x7fff_ffff, 0xffff_0000, 0xffff_ffff] {
-        case("a number is no entry number", &[Long(a)], &[0], 0, 1000);
-        case("a number is no entry number, in a later record", &[Zero, Long(a), Pair(0, 1)], &[2], 1, 1002);
+        case(&format!("{a:#x} has no entry numbers"), &[Long(a)], &[0], 0, 1000);
+        case(&format!("{a:#x} has no entry numbers, in a later record"), &[Zero, Long(a), Pair(0, 1)], &[2], 1, 1002);
     }
 }
 
@@ -657,7 +659,7 @@ fn atom_lengths(t: &mut Tally) {
     }
     for length in [1, 2, 4, 6, 7, 129] {
         let bad = Raw(vec![1; length]);
-        let what = |where_: &str| format!("an atom of length {length}, {where_}");
+        let what = |place: &str| format!("an atom of length {length}, {place}");
         t.case(&what("last"), &sheet(&[Atom(1000), Long(1000), bad.clone()], &[0], 0), 1, 0, FRONT, 5);
         t.case(&what("before a pair of itself"), &sheet(&[Atom(1000), bad.clone(), Pair(2, 2)], &[0], 0), 1, 0, FRONT, 5);
         t.case(&what("after a pair of itself"), &sheet(&[Atom(1000), Pair(1, 1), bad], &[0], 0), 1, 0, FRONT, 6);
@@ -677,6 +679,7 @@ fn longest(t: &mut Tally) {
         t.case(&format!("{what}, all heard"), s, 256, 0, FRONT, 1000);
         t.case(&format!("{what}, past the log"), s, 257, 0, FRONT, 8);
     }
+    t.case("the longest sheet, zero heard 256 times", &full_sheet(Entry::Long(65536 + 1000), [255, 255], 0), 256, 256, ROOM, 2000);
     t.case("the longest sheet, a name", &full(Entry::Long(7), 0), 0, 0, FRONT, 1000);
     t.case("the longest sheet, a name for the goal's head", &full(Entry::Long(7), 254), 0, 0, FRONT, 1000);
     t.case("the longest sheet and one byte", &[&long[..], &[0]].concat(), 2, 0, FRONT, 1);
@@ -796,29 +799,34 @@ fn every_entry_missing(t: &mut Tally) {
     }
 }
 
+// What is stated case by case.
+fn stated_cases(t: &mut Tally) {
+    flight_card(t);
+    edges(t);
+    names(t);
+    missing_parts(t);
+    orders(t);
+    zero_otherwise(t);
+    whole_numbers(t);
+    for a in [256, 1000, 65535] {
+        either_record(t, a);
+    }
+    names_in_either_record(t);
+    edge_numbers(t);
+    no_other_kind(t);
+    atom_lengths(t);
+    longest(t);
+    large(t);
+    large_missing_parts(t);
+    every_entry(t);
+    every_entry_missing(t);
+}
+
 fn main() {
     let first_only = std::env::args().nth(1).as_deref() == Some("first");
     let mut t = Tally { calls: 0, failed: 0, reached: 0, out: 0, used: 0, stopped: 0, refused: 0, first_only };
     let mut r = Random(0x2545f4914f6cdd1d);
-    flight_card(&mut t);
-    edges(&mut t);
-    names(&mut t);
-    missing_parts(&mut t);
-    orders(&mut t);
-    zero_otherwise(&mut t);
-    whole_numbers(&mut t);
-    for a in [256, 1000, 65535] {
-        either_record(&mut t, a);
-    }
-    names_in_either_record(&mut t);
-    edge_numbers(&mut t);
-    no_other_kind(&mut t);
-    atom_lengths(&mut t);
-    longest(&mut t);
-    large(&mut t);
-    large_missing_parts(&mut t);
-    every_entry(&mut t);
-    every_entry_missing(&mut t);
+    stated_cases(&mut t);
     small_sheets(&mut t, &mut r);
     heard_sums(&mut t, &mut r);
     lacking_sums(&mut t, &mut r);

@@ -135,21 +135,6 @@ fn with_shorter_buffer(s: &[u8], cut: u32, budget: u32, out: &mut [u8]) -> u32 {
 
 // ---- E10: atoms of 32 bits
 
-// The good sheet as a library takes it that reads another number from an atom's record, or has another test for the label. Atoms are the same where the
-// numbers read are, and the first of them is tested. Each gets a number of its own below 512.
-fn read_as(s: &[u8], read: impl Fn(&[u8]) -> u64, public: impl Fn(&[u8]) -> bool) -> Vec<u8> {
-    let mut seen: Vec<(u64, u32)> = vec![];
-    with_numbers(s, |old| {
-        let number = read(&old[1..]);
-        if let Some((_, new)) = seen.iter().find(|(other, _)| *other == number) {
-            return *new;
-        }
-        let new = seen.len() as u32 + if public(&old[1..]) { 0 } else { 256 };
-        seen.push((number, new));
-        new
-    })
-}
-
 // The number that a faulty reader takes from the bytes after the kind. 2 to the power 32 and more is no atom's number.
 fn read_wrong(bytes: &[u8]) -> u64 {
     let number = u64::from(joined(bytes));
@@ -180,6 +165,28 @@ fn public_wrong(bytes: &[u8]) -> bool {
         ("long and short of one number different terms", _) => joined(bytes) < 256,
         _ => read_wrong(bytes) < 256,
     }
+}
+
+// The good sheet as a library with this reader and this label test takes it. Atoms are the same where the numbers read are, and the first of them is tested;
+// each gets a number of its own below 512. A sheet in whose atoms nothing is mistaken stays as it is.
+fn misread(s: &[u8]) -> Vec<u8> {
+    let mistaken = |i: u16| {
+        let (bytes, number) = (&record(s, i)[1..], atom(s, i));
+        read_wrong(bytes) != u64::from(number) || public_wrong(bytes) != (number < 256)
+    };
+    if !(0..number(s, 4)).any(|i| is_atom(s, i) && mistaken(i)) {
+        return s.to_vec();
+    }
+    let mut seen: Vec<(u64, u32)> = vec![];
+    with_numbers(s, |old| {
+        let number = read_wrong(&old[1..]);
+        if let Some((_, new)) = seen.iter().find(|(other, _)| *other == number) {
+            return *new;
+        }
+        let new = seen.len() as u32 + if public_wrong(&old[1..]) { 0 } else { 256 };
+        seen.push((number, new));
+        new
+    })
 }
 
 // The good sheet as a library takes it that has an atom's kind 16 bits above its number: atom 65,536 + 256 · l + r is then the pair of entries l and r,
@@ -260,7 +267,7 @@ fn judged(s: &[u8], cut: u32, budget: u32, out: &mut [u8]) -> u32 {
         }
         "refusal 10 still at 32" => with_shorter_buffer(s, cut, budget, out),
         "the kind 16 bits above the number" => plain::verdict(&kind_over_16_bits(s), cut, budget, out),
-        _ => plain::verdict_missing(&read_as(s, read_wrong, public_wrong), cut, budget, out, missing),
+        _ => plain::verdict_missing(&misread(s), cut, budget, out, missing),
     }
 }
 
