@@ -28,7 +28,7 @@ pub enum Command {
 }
 
 // The version of the tool and of the library, as the C header has it.
-const VERSION: &str = "sheet 3.0.0\n";
+const VERSION: &str = "sheet 4.0.0\n";
 
 const HELP: &str = "\
 sheet - sheets as text, verdicts in names, and pictures of their ladders
@@ -77,7 +77,8 @@ usage: sheet assemble [TEXT] [-o FILE]
 Reads the text notation of a sheet and writes the sheet's bytes. One statement a line, # begins a comment:
 
     LABEL zero
-    LABEL atom NUMBER           0 to 65535; 0 to 255 are the names on the hull label, which every listener has
+    LABEL atom NUMBER           0 to 4294967295; 0 to 255 are the names on the hull label, which every listener has
+    LABEL atom NUMBER long      the same atom in the long record, which a number over 65535 has anyway
     LABEL atom                  a number of 1000 or more that no other entry has
     LABEL pair LEFT RIGHT
     LABEL seal MESSAGE KEY

@@ -3,7 +3,7 @@
 use super::model::{Entry, Sheet, MOST_ENTRIES, MOST_HEARD, MOST_ITEMS};
 
 pub const LETTERS: &[u8; 4] = b"SHT1";
-pub const MOST_BYTES: usize = 34_444;
+pub const MOST_BYTES: usize = 34_446;
 
 // The word of a refusal number in the grounding table.
 pub fn refusal_word(number: u32) -> Option<&'static str> {
@@ -14,10 +14,16 @@ pub fn refusal_word(number: u32) -> Option<&'static str> {
     words.get(place).copied()
 }
 
+// An atom's number in pieces of 2 bytes, the high one first: one in the short record, two in the long one.
+fn pieces(number: u32, long: bool) -> Vec<usize> {
+    let (high, low) = ((number >> 16) as usize, (number & 0xffff) as usize);
+    if long || high > 0 { vec![high, low] } else { vec![low] }
+}
+
 fn record(entry: &Entry) -> Vec<u8> {
     let (kind, numbers): (u8, Vec<usize>) = match entry {
         Entry::Zero => (0, vec![]),
-        Entry::Atom(number) => (1, vec![usize::from(*number)]),
+        Entry::Atom { number, long } => (1, pieces(*number, *long)),
         Entry::Pair(left, right) => (2, vec![*left, *right]),
         Entry::Seal(message, key) => (3, vec![*message, *key]),
         Entry::Sum(items) => (4, items.clone()),
@@ -77,7 +83,8 @@ fn entry(record: &[u8], own: usize) -> Result<Entry, u32> {
     let numbers: Vec<usize> = (1..record.len().saturating_sub(1)).step_by(2).map(|at| number(record, at)).collect();
     let entry = match (record.first(), record.len(), numbers.as_slice()) {
         (Some(0), 1, _) => Entry::Zero,
-        (Some(1), 3, [atom]) => return Ok(Entry::Atom(*atom as u16)),
+        (Some(1), 3, [number]) => return Ok(Entry::Atom { number: *number as u32, long: false }),
+        (Some(1), 5, [high, low]) => return Ok(Entry::Atom { number: (high << 16 | low) as u32, long: true }),
         (Some(2), 5, [left, right]) => Entry::Pair(*left, *right),
         (Some(3), 5, [message, key]) => Entry::Seal(*message, *key),
         (Some(4), length, items) if length % 2 == 1 && items.len() <= MOST_ITEMS => Entry::Sum(items.to_vec()),

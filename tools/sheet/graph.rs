@@ -70,7 +70,7 @@ const LONGEST_GOAL: usize = 40;
 fn term(sheet: &Sheet, entry: usize, label: impl Fn(&usize) -> String) -> String {
     match &sheet.entries[entry] {
         Entry::Zero => "zero".to_string(),
-        Entry::Atom(number) => format!("atom {number}"),
+        Entry::Atom { number, .. } => format!("atom {number}"),
         Entry::Pair(left, right) => format!("({}, {})", label(left), label(right)),
         Entry::Seal(message, key) => format!("{} sealed under {}", label(message), label(key)),
         Entry::Sum(items) if items.is_empty() => "sum of nothing".to_string(),

@@ -30,7 +30,7 @@ impl Heads {
             let mut set_of = |key| single(*standard.entry(key).or_insert(i));
             let set = match entry {
                 Entry::Zero => [0; 4],
-                Entry::Atom(number) => set_of((1, usize::from(*number), 0)),
+                Entry::Atom { number, .. } => set_of((1, *number as usize, 0)),
                 Entry::Pair(left, right) => set_of((2, heads.head[*left], heads.head[*right])),
                 Entry::Seal(message, key) => set_of((3, heads.head[*message], heads.head[*key])),
                 Entry::Sum(items) => items.iter().fold([0; 4], |sum, item| add(sum, heads.sets[*item])),

@@ -120,7 +120,8 @@ fn same_lines(sheet: &Sheet, public: &[usize], cut: usize, verdict: &Verdict) ->
     let parts: Vec<usize> = shown.iter().filter_map(|entry| sheet.entries.get(*entry)).flat_map(|entry| entry.parts()).collect();
     shown.insert(head(&asked, sheet.goal));
     shown.extend(public);
-    let again = (0..sheet.entries.len()).filter(|entry| public.iter().any(|head| sheet.entries.get(*head) == sheet.entries.get(*entry)));
+    let numbers: Vec<u32> = public.iter().filter_map(|head| sheet.entries.get(*head)?.number()).collect();
+    let again = (0..sheet.entries.len()).filter(|entry| sheet.entries[*entry].number().map_or(false, |number| numbers.contains(&number)));
     let named: BTreeSet<usize> = again.chain(sheet.heard.iter().take(cut).copied()).chain([sheet.goal]).chain(parts).collect();
     let mut text = String::new();
     for entry in named {

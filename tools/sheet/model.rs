@@ -5,21 +5,26 @@ pub const MOST_HEARD: usize = 256;
 pub const MOST_ITEMS: usize = 64;
 
 // Atoms up to this number are public: they are the board's names on the hull label, and a listener has them without hearing anything.
-const LAST_PUBLIC: u16 = 255;
+const LAST_PUBLIC: u32 = 255;
+
+// Atoms up to this number fit the short record.
+const LAST_SHORT: u32 = 65_535;
 
 // What is said of a public atom.
 pub const ON_HULL_LABEL: &str = "on the hull label";
 
-#[derive(Clone, Debug, PartialEq)]
+// Entries can't be compared: an atom's record may be short or long, and its number alone makes the term.
+#[derive(Clone, Debug)]
 pub enum Entry {
     Zero,
-    Atom(u16),
+    // `long` says which record it stands in. A number that doesn't fit the short one stands in the long one.
+    Atom { number: u32, long: bool },
     Pair(usize, usize),
     Seal(usize, usize),
     Sum(Vec<usize>),
 }
 
-#[derive(Clone, Debug, PartialEq)]
+#[derive(Clone, Debug)]
 pub struct Sheet {
     pub entries: Vec<Entry>,
     // One for each entry; none for an entry that has only its number.
@@ -29,17 +34,32 @@ pub struct Sheet {
 }
 
 impl Entry {
+    // An atom in the short record where its number fits, else in the long one.
+    pub fn atom(number: u32) -> Entry {
+        Entry::Atom { number, long: number > LAST_SHORT }
+    }
+
+    // An atom's number. Atoms of one number are one term, in whichever record.
+    pub fn number(&self) -> Option<u32> {
+        if let Entry::Atom { number, .. } = self { Some(*number) } else { None }
+    }
+
+    // An atom in the long record whose number would fit the short one: its text says so.
+    pub fn says_long(&self) -> bool {
+        matches!(self, Entry::Atom { number, long: true } if *number <= LAST_SHORT)
+    }
+
     // The entries that the record names.
     pub fn parts(&self) -> Vec<usize> {
         match self {
-            Entry::Zero | Entry::Atom(_) => vec![],
+            Entry::Zero | Entry::Atom { .. } => vec![],
             Entry::Pair(one, other) | Entry::Seal(one, other) => vec![*one, *other],
             Entry::Sum(items) => items.clone(),
         }
     }
 
     pub fn is_public(&self) -> bool {
-        matches!(self, Entry::Atom(number) if *number <= LAST_PUBLIC)
+        self.number().map_or(false, |number| number <= LAST_PUBLIC)
     }
 }
 
@@ -60,20 +80,21 @@ impl Sheet {
         }
     }
 
-    // The first entry that has the same record. For an atom it is the head: a sum that is an atom stands behind that atom.
-    fn first_like(&self, entry: &Entry) -> usize {
-        self.entries.iter().position(|other| other == entry).unwrap_or(0)
+    // The first atom with this number. It is the head: a sum that is an atom stands behind that atom.
+    fn first_atom(&self, number: u32) -> usize {
+        self.entries.iter().position(|entry| entry.number() == Some(number)).unwrap_or(0)
     }
 
     // The public atoms, each once, as its head, in rising order.
     pub fn public(&self) -> Vec<usize> {
-        (0..self.entries.len()).filter(|i| self.entries[*i].is_public() && self.first_like(&self.entries[*i]) == *i).collect()
+        let first = |i: &usize| self.entries[*i].number().map(|number| self.first_atom(number)) == Some(*i);
+        (0..self.entries.len()).filter(|i| self.entries[*i].is_public() && first(i)).collect()
     }
 
     // The sheet with other numbers for its atoms, so that none is public. Atoms that were the same are the same, and no others.
     pub fn without_public(&self) -> Sheet {
         let renumbered = |entry: &Entry| match entry {
-            Entry::Atom(_) => Entry::Atom(LAST_PUBLIC + 1 + self.first_like(entry) as u16),
+            Entry::Atom { number, .. } => Entry::atom(LAST_PUBLIC + 1 + self.first_atom(*number) as u32),
             other => other.clone(),
         };
         Sheet { entries: self.entries.iter().map(renumbered).collect(), ..self.clone() }

@@ -12,7 +12,8 @@ fn numbers(list: &[usize]) -> String {
 fn statement(entry: &Entry) -> String {
     match entry {
         Entry::Zero => "zero".to_string(),
-        Entry::Atom(number) => format!("atom {number}"),
+        Entry::Atom { number, .. } if entry.says_long() => format!("atom {number} long"),
+        Entry::Atom { number, .. } => format!("atom {number}"),
         Entry::Pair(left, right) => format!("pair {left} {right}"),
         Entry::Seal(message, key) => format!("seal {message} {key}"),
         Entry::Sum(items) => format!("sum{}", numbers(items)),
@@ -36,7 +37,7 @@ fn write_term(sheet: &Sheet, entry: usize, depth: usize, inner: bool, out: &mut 
     };
     match sheet.entries.get(entry) {
         Some(Entry::Zero) | None => out.push('0'),
-        Some(Entry::Atom(number)) => out.push_str(&format!("a{number}")),
+        Some(Entry::Atom { number, .. }) => out.push_str(&format!("a{number}")),
         Some(_) if depth == 0 => out.push_str(&format!("#{entry}")),
         Some(Entry::Pair(left, right)) => return parts("(", &[*left, *right], ", ", ")", false),
         Some(Entry::Seal(message, key)) => return parts("{", &[*message], "", "}", false) && parts("", &[*key], "", "", true),
@@ -51,7 +52,7 @@ fn write_term(sheet: &Sheet, entry: usize, depth: usize, inner: bool, out: &mut 
 fn comment(sheet: &Sheet, entry: usize) -> Option<String> {
     match sheet.entries.get(entry)? {
         atom if atom.is_public() => return Some(ON_HULL_LABEL.to_string()),
-        Entry::Zero | Entry::Atom(_) => return None,
+        Entry::Zero | Entry::Atom { .. } => return None,
         Entry::Sum(items) if items.is_empty() => return None,
         _ => (),
     }

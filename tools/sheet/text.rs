@@ -8,10 +8,10 @@ const RESERVED: [&str; 7] = ["zero", "atom", "pair", "seal", "sum", "heard", "go
 const KINDS: &str = "expected zero, atom, pair, seal or sum";
 
 // The least number that an atom without one gets.
-const LEAST_OWN: u16 = 1000;
+const LEAST_OWN: u32 = 1000;
 
 // A text's sheet, and what its writer may not have meant.
-#[derive(Clone, Debug, PartialEq)]
+#[derive(Clone, Debug)]
 pub struct Text {
     pub sheet: Sheet,
     pub notes: Vec<Fault>,
@@ -24,7 +24,7 @@ struct Reader {
     entries: Vec<Entry>,
     names: Vec<Option<String>>,
     named: HashMap<String, (usize, usize)>,
-    atoms: HashMap<u16, Option<String>>,
+    atoms: HashMap<u32, Option<String>>,
     unnumbered: Vec<usize>,
     notes: Vec<Fault>,
     heard: Vec<usize>,
@@ -53,11 +53,21 @@ fn ends(line: &Line, position: usize, what: &str) -> Result<(), Fault> {
     }
 }
 
-fn atom_number(word: Word) -> Result<u16, Fault> {
-    match decimal(word.text).map(u16::try_from) {
+fn atom_number(word: Word) -> Result<u32, Fault> {
+    match decimal(word.text).map(u32::try_from) {
         Some(Ok(number)) => Ok(number),
-        Some(Err(_)) => fault(word.place, format!("the number {} is out of range, expected 0 to 65535", shown_number(word.text))),
-        None => fault(word.place, format!("found {}, expected a number from 0 to 65535", quoted(word.text))),
+        Some(Err(_)) => fault(word.place, format!("the number {} is out of range, expected 0 to {}", shown_number(word.text), u32::MAX)),
+        None => fault(word.place, format!("found {}, expected a number from 0 to {}", quoted(word.text), u32::MAX)),
+    }
+}
+
+// The atom of a line that has its number: in the long record where long stands behind the number, or where the number needs it.
+fn atom(line: &Line) -> Result<Entry, Fault> {
+    let number = atom_number(word(line, 2, "the atom's number")?)?;
+    match line.words.get(3) {
+        None => Ok(Entry::atom(number)),
+        Some(word) if word.text == "long" => ends(line, 4, "long").map(|()| Entry::Atom { number, long: true }),
+        Some(word) => fault(word.place, format!("found {}, expected long or the line's end after the atom's number", quoted(word.text))),
     }
 }
 
@@ -131,11 +141,8 @@ impl Reader {
         let kind = word(line, 1, "zero, atom, pair, seal or sum after the label")?;
         match kind.text {
             "zero" => ends(line, 2, "zero").map(|()| Entry::Zero),
-            "atom" if line.words.len() == 2 => Ok(Entry::Atom(LEAST_OWN)),
-            "atom" => {
-                let number = atom_number(word(line, 2, "the atom's number, 0 to 65535")?)?;
-                ends(line, 3, "the atom's number").map(|()| Entry::Atom(number))
-            }
+            "atom" if line.words.len() == 2 => Ok(Entry::atom(LEAST_OWN)),
+            "atom" => atom(line),
             "pair" => self.two(line, "pair", "the left entry", "the right entry").map(|(l, r)| Entry::Pair(l, r)),
             "seal" => self.two(line, "seal", "the message", "the key").map(|(m, k)| Entry::Seal(m, k)),
             "sum" => self.items(line.words.get(2..).unwrap_or(&[])).map(Entry::Sum),
@@ -144,7 +151,7 @@ impl Reader {
     }
 
     // Takes a written atom number, and notes a second name for it.
-    fn note(&mut self, atom: u16, name: Option<&String>, place: Place) {
+    fn note(&mut self, atom: u32, name: Option<&String>, place: Place) {
         let first = self.atoms.entry(atom).or_insert_with(|| name.cloned());
         match (first, name) {
             (Some(first), Some(name)) if first != name => {
@@ -159,9 +166,9 @@ impl Reader {
 
     // Gives each atom without a number the least one from 1000 on that no other has.
     fn number_atoms(&mut self) {
-        let free = (LEAST_OWN..=u16::MAX).filter(|number| !self.atoms.contains_key(number));
+        let free = (LEAST_OWN..).filter(|number| !self.atoms.contains_key(number));
         for (entry, number) in self.unnumbered.iter().zip(free) {
-            self.entries[*entry] = Entry::Atom(number);
+            self.entries[*entry] = Entry::atom(number);
         }
     }
 
@@ -172,10 +179,10 @@ impl Reader {
         if number == MOST_ENTRIES {
             return fault(first.place, format!("found entry line {}, expected at most {MOST_ENTRIES}", number + 1));
         }
-        match term {
-            Entry::Atom(_) if line.words.len() == 2 => self.unnumbered.push(number),
-            Entry::Atom(atom) => self.note(atom, name.as_ref(), first.place),
-            _ => (),
+        match term.number() {
+            Some(_) if line.words.len() == 2 => self.unnumbered.push(number),
+            Some(atom) => self.note(atom, name.as_ref(), first.place),
+            None => (),
         }
         if let Some(name) = &name {
             self.named.insert(name.clone(), (number, first.place.line));
