@@ -70,7 +70,7 @@ const TEXT: &str = "key atom 1007\nmask atom 1009\nmasked sum key mask\nheard ma
 
 // What TEXT assembles to.
 fn assembled() -> Vec<u8> {
-    let entries = vec![Entry::Atom(1007), Entry::Atom(1009), Entry::Sum(vec![0, 1])];
+    let entries = vec![Entry::atom(1007), Entry::atom(1009), Entry::Sum(vec![0, 1])];
     bytes::encode(&model::Sheet { names: vec![None; 3], entries, heard: vec![2, 1], goal: 0 })
 }
 
@@ -154,10 +154,9 @@ fn inputs(c: &mut Checks) {
     c.check("the inputs are whole", c.content("a.sheet") == TEXT.as_bytes() && c.content("a.bytes") == assembled() && c.content("a.card").len() > 50);
 }
 
-fn atoms_of(run: &Run) -> Vec<u16> {
+fn atoms_of(run: &Run) -> Vec<u32> {
     let sheet = bytes::decode(&run.out).ok();
-    let number = |entry: &Entry| if let Entry::Atom(number) = entry { Some(*number) } else { None };
-    sheet.map_or(vec![], |sheet| sheet.entries.iter().filter_map(number).collect())
+    sheet.map_or(vec![], |sheet| sheet.entries.iter().filter_map(Entry::number).collect())
 }
 
 // Two names for one atom are noted on standard error, and the sheet is made all the same.
@@ -188,6 +187,9 @@ fn own_numbers(c: &mut Checks) {
         ("a atom\nb atom 1000\nc atom\nd atom 1002\ngoal a\n", vec![1001, 1000, 1003, 1002]),
         ("0 atom # no number\nx atom 5\n2 atom\ngoal x\n", vec![1000, 5, 1001]),
         ("0 atom\nx atom 0\ny atom 255\nz atom 256\n4 atom\ngoal x\n", vec![1000, 0, 255, 256, 1001]),
+        // The number in a long record is taken too; 66,536 is 65,536 + 1,000 and takes none.
+        ("a atom\nb atom 1000 long\nc atom\nd atom 66536\ngoal a\n", vec![1001, 1000, 1002, 66536]),
+        ("a atom 66536\nb atom 4294967295\nc atom\ngoal a\n", vec![66536, 4294967295, 1000]),
     ];
     for (text, wanted) in cases {
         c.file("own", text.as_bytes());

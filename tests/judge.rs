@@ -253,7 +253,7 @@ fn asked(text: &str) -> Asked {
         match words[..] {
             ["heard", ..] => asked.heard.extend(words[1..].iter().filter_map(|name| asked.names.get(*name))),
             ["goal", name] => asked.goal = heading(name),
-            [name, "atom", atom] if number(Some(atom)).map_or(false, |atom| atom < 256) => asked.public.push(heading(name)),
+            [name, "atom", atom, ..] if number(Some(atom)).map_or(false, |atom| atom < 256) => asked.public.push(heading(name)),
             _ => (),
         }
     }
@@ -321,12 +321,21 @@ fn plainly(bytes: &[u8], cut: u32) -> Said {
     Said { cuts: vec![(cut as usize, true, made)], rungs: buffer[FRONT..].chunks(40).take(made).map(rung).collect(), used, missing }
 }
 
+// An atom's number, in either record.
+fn atom_number(entry: &Entry) -> Option<u32> {
+    if let Entry::Atom(number) | Entry::Long(number) = entry { Some(*number) } else { None }
+}
+
+fn is_public(entry: &Entry) -> bool {
+    atom_number(entry).map_or(false, |number| number < 256)
+}
+
 // The head of each entry, by the plain verdict on a sheet whose atoms are over 255: the lowest entry that a listener who heard the one has
 // without a step.
 fn heads(entries: &[Entry]) -> Vec<usize> {
-    let numbers: BTreeSet<u16> = entries.iter().filter_map(|entry| if let Entry::Atom(number) = entry { Some(*number) } else { None }).collect();
-    let place = |number: &u16| numbers.range(..*number).count() as u16;
-    let raise = |entry: &Entry| if let Entry::Atom(number) = entry { Entry::Atom(5000 - place(number)) } else { entry.clone() };
+    let numbers: BTreeSet<u32> = entries.iter().filter_map(atom_number).collect();
+    let place = |number: u32| numbers.range(..number).count() as u32;
+    let raise = |entry: &Entry| atom_number(entry).map_or(entry.clone(), |number| Entry::Atom(5000 - place(number)));
     let raised: Vec<Entry> = entries.iter().map(raise).collect();
     let same = |one: u16, other: u16| plain::verdict(&sheet(&raised, &[one], other), 1, 0, &mut [0; FRONT]) == 1000;
     (0..entries.len() as u16).map(|one| usize::from((0..=one).find(|other| same(one, *other)).unwrap_or(one))).collect()
@@ -343,7 +352,7 @@ fn same_lines(entries: &[Entry], heads: &[usize], before: &[usize], goal: usize,
     let in_steps = said.rungs.iter().flat_map(|rung| rung[2..].iter().copied().chain([rung[0]]));
     let lacked = said.used.iter().chain(&said.missing).copied().chain((!said.missing.is_empty()).then_some(goal));
     let told: BTreeSet<usize> = in_steps.chain(lacked).collect();
-    let public: Vec<usize> = (0..entries.len()).filter(|i| matches!(entries[*i], Entry::Atom(0..=255))).collect();
+    let public: Vec<usize> = (0..entries.len()).filter(|i| is_public(&entries[*i])).collect();
     let named: BTreeSet<usize> = told.iter().flat_map(parts).chain(before.iter().copied()).chain(public.iter().copied()).chain([goal]).collect();
     let shown = |head: usize| told.contains(&head) || public.contains(&head) || head == heads[goal];
     let other = named.into_iter().filter(|entry| heads[*entry] != *entry && shown(heads[*entry]));
@@ -354,13 +363,13 @@ fn same_lines(entries: &[Entry], heads: &[usize], before: &[usize], goal: usize,
 fn random_sheets(c: &mut Tally, p: &Paths) {
     let mut r = Random(0x6a09e667f3bcc909);
     let (mut same, mut public, mut no_step, mut used, mut several) = (0, 0, 0, 0, 0);
-    for _ in 0..100 {
+    for _ in 0..400 {
         let (entries, heard, goal) = random_entries(&mut r, 24);
         let (bytes, heads) = (sheet(&entries, &heard, goal), heads(&entries));
         let names: HashMap<String, usize> = (0..entries.len()).map(|i| (i.to_string(), i)).collect();
         let heard: Vec<usize> = heard.iter().map(|entry| usize::from(*entry)).collect();
         let goal = usize::from(goal);
-        let first: Vec<usize> = (0..entries.len()).filter(|i| heads[*i] == *i && matches!(entries[*i], Entry::Atom(0..=255))).collect();
+        let first: Vec<usize> = (0..entries.len()).filter(|i| heads[*i] == *i && is_public(&entries[*i])).collect();
         let (goal_public, list) = (first.contains(&heads[goal]), first.iter().map(|entry| format!("entry {entry}")).collect());
         let asked = Asked { names, heard, goal: format!("entry {goal}"), public: list, goal_public };
         for cut in 0..=asked.heard.len() {

@@ -125,9 +125,9 @@ fn narrow(c: &mut Checks, picture: &str) {
 fn starts(bytes: &[u8], card: &str) -> (Vec<usize>, Vec<usize>) {
     let sheet = bytes::decode(bytes).expect("a good sheet");
     let heads = heads::Heads::of(&sheet).head;
-    let mut seen: Vec<u16> = vec![];
+    let mut seen: Vec<u32> = vec![];
     let mut first = |entry: &model::Entry| match entry {
-        model::Entry::Atom(number) if *number < 256 && !seen.contains(number) => {
+        model::Entry::Atom { number, .. } if *number < 256 && !seen.contains(number) => {
             seen.push(*number);
             true
         }
@@ -260,8 +260,8 @@ fn sums(r: &mut Random) -> Vec<u8> {
     let n = 4 + r.below(60);
     let first = 2 + r.below(n / 2);
     let entry = |r: &mut Random, i: u64| match (i < first, r.below(8)) {
-        (true, 0) => Entry::Atom(i as u16),
-        (true, _) => Entry::Atom(1000 + i as u16),
+        (true, 0) => Entry::Atom(i as u32),
+        (true, _) => Entry::Atom(1000 + i as u32),
         (false, 0) => Entry::Seal(r.below(i) as u16, r.below(i) as u16),
         _ => Entry::Sum((0..2 + r.below(8)).map(|_| r.below(i) as u16).collect()),
     };
@@ -382,7 +382,7 @@ fn needed(c: &mut Checks) {
 fn long(c: &mut Checks) {
     let key = |i: u16| if i == 0 { 0 } else { 2 * i - 1 };
     let seal = |i: u16| (i > 0).then(|| Entry::Seal(key(i), key(i - 1)));
-    let opens: Vec<Entry> = (0..=100u16).flat_map(|i| [Some(Entry::Atom(1000 + i)), seal(i)]).flatten().collect();
+    let opens: Vec<Entry> = (0..=100u16).flat_map(|i| [Some(Entry::Atom(1000 + u32::from(i))), seal(i)]).flatten().collect();
     let heard: Vec<u16> = (1..=100).map(|i| 2 * i).chain([0]).collect();
     let bytes = sheet(&opens, &heard, key(100));
     let card = card_of(&bytes);

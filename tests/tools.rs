@@ -85,13 +85,17 @@ fn sheet_a() -> Vec<u8> {
 
 fn round_trips(c: &mut Checks) {
     let mut r = Random(0x9e3779b97f4a7c15);
+    let mut long = 0;
     for i in 0..3000 {
         let bytes = if i % 50 == 0 { large(&mut r) } else { random_sheet(&mut r) };
-        let back = bytes::decode(&bytes).ok().and_then(|sheet| text::parse(print::print(&sheet).as_bytes()).ok()).map(|text| bytes::encode(&text.sheet));
+        let printed = bytes::decode(&bytes).map_or(String::new(), |sheet| print::print(&sheet));
+        let back = text::parse(printed.as_bytes()).ok().map(|text| bytes::encode(&text.sheet));
         c.check("a sheet comes back from its text", back.as_deref() == Some(&bytes[..]));
+        long += printed.matches(" long").count();
         let hurt = damage(&mut r, bytes);
         c.check("a damaged sheet gets its refusal", bytes::decode(&hurt).err().unwrap_or(0) == refusal(&hurt));
     }
+    c.check(&format!("{long} long records of numbers that fit the short one"), long > 1000);
     for i in 0..48 {
         let bytes = if i % 8 == 0 { large(&mut r) } else { random_sheet(&mut r) };
         let text = c.run(&["disassemble"], &bytes);
@@ -148,15 +152,15 @@ fn bad_texts() -> Vec<(String, &'static str, Vec<&'static str>)> {
         ("a zero\nb pair a  # short\n", "2:9", vec!["found the line's end", "expected the right entry"]),
         ("a zero\nb seal\n", "2:7", vec!["found the line's end", "expected the message"]),
         ("a atom  # no goal\n", "2:1", vec!["found no goal"]),
-        ("a atom b\n", "1:8", vec!["found \"b\"", "expected a number from 0 to 65535"]),
+        ("a atom b\n", "1:8", vec!["found \"b\"", "expected a number from 0 to 4294967295"]),
         ("a\n", "1:2", vec!["expected zero, atom, pair, seal or sum"]),
         ("a zero\ngoal\n", "2:5", vec!["expected the goal's entry"]),
         ("a zero b\n", "1:8", vec!["found \"b\"", "expected the line's end after zero"]),
-        ("a atom 1 2\n", "1:10", vec!["found \"2\"", "expected the line's end"]),
+        ("a atom 1 2\n", "1:10", vec!["found \"2\"", "expected long or the line's end after the atom's number"]),
         ("a zero\nb pair a a a\n", "2:12", vec!["found \"a\"", "expected the line's end"]),
         ("a zero\ngoal a a\n", "2:8", vec!["found \"a\"", "expected the line's end"]),
-        ("a atom 65536\n", "1:8", vec!["65536 is out of range", "expected 0 to 65535"]),
-        ("a atom -1\n", "1:8", vec!["found \"-1\"", "expected a number from 0 to 65535"]),
+        ("a atom 4294967296\n", "1:8", vec!["4294967296 is out of range", "expected 0 to 4294967295"]),
+        ("a atom -1\n", "1:8", vec!["found \"-1\"", "expected a number from 0 to 4294967295"]),
         ("a zero\ngoal a\n\ngoal a\n", "4:1", vec!["second goal", "line 2"]),
         ("a zero\nheard a\n", "3:1", vec!["found no goal", "expected one line: goal ENTRY"]),
         ("a zero # no goal", "1:17", vec!["found no goal"]),
@@ -223,7 +227,7 @@ fn usage(c: &mut Checks) {
         (&["assemble", "--help"], "usage: sheet assemble "),
         (&["disassemble", "-h"], "usage: sheet disassemble "),
         (&["draw", "x", "--help"], "usage: sheet draw "),
-        (&["--version"], "sheet 3."),
+        (&["--version"], "sheet 4."),
     ];
     for (words, start) in told {
         let run = c.run(words, b"");
@@ -280,15 +284,17 @@ fn bad_cards(c: &mut Checks) {
     c.fails(&["draw", "a.sheet", "missing.card"], b"", 1, "missing.card: can't be read", &[]);
 }
 
-// The text of a sheet says which atoms are on the hull label: 0 to 255, each time that one stands there.
+// The text of a sheet says which atoms are on the hull label: 0 to 255, each time that one stands there. 65,791 is 65,536 + 255.
 fn public_comments(c: &mut Checks) {
     use Entry::*;
-    let bytes = sheet(&[Atom(0), Atom(255), Atom(256), Atom(1000), Atom(65535), Atom(255), Zero, Sum(vec![1])], &[], 4);
-    let [first, second, fifth] = ["0 atom 0", "1 atom 255", "5 atom 255"].map(|line| format!("{line:<20} # on the hull label"));
-    let wanted = [&first, &second, "2 atom 256", "3 atom 1000", "4 atom 65535", &fifth, "6 zero"];
+    let terms = [Zero, Sum(vec![1]), Pair(1, 4), Sum(vec![3, 4])];
+    let bytes = sheet(&[&[Atom(0), Atom(255), Atom(256), Atom(65535), Atom(65791), Long(255)], &terms[..]].concat(), &[], 4);
+    let [first, second, fifth] = ["0 atom 0", "1 atom 255", "5 atom 255 long"].map(|line| format!("{line:<20} # on the hull label"));
+    let wanted = [&first, &second, "2 atom 256", "3 atom 65535", "4 atom 65791", &fifth, "6 zero"];
     let text = String::from_utf8_lossy(&c.run(&["disassemble"], &bytes).out).into_owned();
     let lines: Vec<&str> = text.lines().skip(1).take(7).collect();
-    c.check(&format!("the comments of\n{text}"), lines == wanted && text.contains("\n7 sum 1              # a255\n"));
+    let short = "\n7 sum 1              # a255\n8 pair 1 4           # (a255, a65791)\n9 sum 3 4            # a65535 + a65791\n";
+    c.check(&format!("the comments of\n{text}"), lines == wanted && text.contains(short));
     let back = c.run(&["assemble"], text.as_bytes());
     c.check("a sheet with public atoms comes back", back.status == 0 && back.err.is_empty() && back.out == bytes);
 }
