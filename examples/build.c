@@ -4,13 +4,13 @@
 #include <stdio.h>
 #include <string.h>
 
-/* A term: its name, its kind, and how many numbers its record has. An atom has its own number; a pair, a seal and a sum have entry numbers.
- * Atoms 0 to 255 are the names on the hull label, which every listener has: a secret takes a higher number. */
+/* A term: its name, its kind, and how many numbers its record has. An atom has its own number, up to 4,294,967,295; a pair, a seal and a sum have
+ * entry numbers. Atoms 0 to 255 are the names on the hull label, which every listener has: a secret takes a higher number. */
 struct term {
     const char *name;
     uint8_t kind;
     unsigned count;
-    uint16_t numbers[2]; /* up to ZUWENDRYK_MOST_ITEMS for sums of more than two */
+    uint32_t numbers[2]; /* up to ZUWENDRYK_MOST_ITEMS for sums of more than two */
 };
 
 enum { KEY, PAD, MASKED_KEY, PLAN, SEALED_PLAN, ENTRIES };
@@ -31,15 +31,17 @@ typedef char table_fits[ENTRIES <= ZUWENDRYK_MOST_ENTRIES && HEARD <= ZUWENDRYK_
 
 static const char *const words[] = {"", "left", "right", "open", "join", "seal", "sum"};
 
-/* Writes a number, the high byte first, and answers the place after it. */
+/* Writes the low 16 bits of a number, the high byte first, and answers the place after them. */
 static uint8_t *put(uint8_t *at, size_t number) {
     at[0] = (uint8_t)(number >> 8);
     at[1] = (uint8_t)number;
     return at + 2;
 }
 
+/* An atom's number over 65,535 needs the long record: its high 16 bits stand before the low ones. */
 static uint8_t *put_record(uint8_t *at, const struct term *term) {
     *at++ = term->kind;
+    if (term->kind == ZUWENDRYK_KIND_ATOM && term->numbers[0] > UINT16_MAX) at = put(at, term->numbers[0] >> 16);
     for (unsigned i = 0; i < term->count; i++) at = put(at, term->numbers[i]);
     return at;
 }

@@ -22,15 +22,19 @@ extern "C" {
 /* VERSION. The same stands in zuwendryk.pc and in what `sheet --version` prints. The first number changes when a sheet can get another answer or
  * the buffer another layout:
  *
+ *     4.0.0   An atom's number has up to 32 bits: its record may be long, and the longest sheet has 34,446 bytes. A caller that was made for
+ *             version 3 is compiled anew if it takes the length of its reading area from ZUWENDRYK_LONGEST_SHEET: it may read up to 34,447
+ *             bytes now, to tell a sheet that is too long. There is nothing else to do. A sheet of at most 34,444 bytes without long records
+ *             gets the same answer and the same bytes. A long record was refused with 5 before, a sheet of 34,445 or 34,446 bytes with 1.
  *     3.0.0   Used set and remainder, 32 bytes each, stand between the gained set and the rungs. A caller that was made for version 2 has to
  *             lend 64 bytes more and to look for each rung 64 bytes later. If it has both from ZUWENDRYK_BUFFER, it is only compiled anew. A
  *             buffer that was just long enough before is refused now. Answers, gained set and rungs are as they were.
  *     2.0.0   Atoms 0 to 255 are on the hull label. A sheet that was made for version 1 and uses such numbers for secrets has to be numbered
  *             anew. */
-#define ZUWENDRYK_VERSION_MAJOR 3
+#define ZUWENDRYK_VERSION_MAJOR 4
 #define ZUWENDRYK_VERSION_MINOR 0
 #define ZUWENDRYK_VERSION_PATCH 0
-#define ZUWENDRYK_VERSION "3.0.0"
+#define ZUWENDRYK_VERSION "4.0.0"
 
 /* LINKING
  *
@@ -58,7 +62,8 @@ extern "C" {
 
 /* THE SHEET'S BYTES
  *
- * A number has 2 bytes, the high one first: 258 is 01 02. Only a record's kind has 1 byte. Offsets count from the sheet's first byte.
+ * A number has 2 bytes, the high one first: 258 is 01 02. Only a record's kind has 1 byte, and an atom's own number may have 4, the highest
+ * first: 65,543 is 00 01 00 07. Offsets count from the sheet's first byte.
  *
  *     offset          bytes   content
  *     0               4       the letters SHT1 (hexadecimal 53 48 54 31)
@@ -73,8 +78,10 @@ extern "C" {
  *
  *     kind        numbers         length    the entry's term
  *     0 zero      none            1         the sum of nothing
- *     1 atom      its own         3         a key, a nonce, a name: anything without parts. Its number is any, 0 to 65,535; the same number
- *                                           is the same atom; 0 to 255 are the board's names on the hull label, which everyone knows
+ *     1 atom      its own         3 or 5    a key, a nonce, a name: anything without parts. Its number is any: 0 to 65,535 in 2 bytes, the
+ *                                           short record of length 3, or 0 to 4,294,967,295 in 4, the long record of length 5. The same
+ *                                           number is the same atom, in either record; 0 to 255 are the board's names on the hull label,
+ *                                           which everyone knows
  *     2 pair      left, right     5         the two terms side by side
  *     3 seal      message, key    5         the message sealed under the key; any entry may be a key
  *     4 sum       0 to 64 items   1 + 2k    the sum of its k items by exclusive or. An item may stand there again, and then cancels out
@@ -94,9 +101,9 @@ extern "C" {
 #define ZUWENDRYK_MOST_ENTRIES 256
 #define ZUWENDRYK_MOST_HEARD 256
 #define ZUWENDRYK_MOST_ITEMS 64       /* of one sum */
-#define ZUWENDRYK_LONGEST_SHEET 34444 /* bytes; 255 sums of 64 items over one atom, and 256 heard messages */
+#define ZUWENDRYK_LONGEST_SHEET 34446 /* bytes; 255 sums of 64 items over one atom in a long record, and 256 heard messages */
 
-#define ZUWENDRYK_NAMES 256           /* atoms with a lower number are names on the hull label */
+#define ZUWENDRYK_NAMES 256           /* atoms with a lower number, in either record, are names on the hull label */
 
 #define ZUWENDRYK_KIND_ZERO 0
 #define ZUWENDRYK_KIND_ATOM 1

@@ -28,16 +28,30 @@ static void sizes(void) {
     expect("the set in a rung", ZUWENDRYK_RUNG_SET + ZUWENDRYK_SET, ZUWENDRYK_RUNG);
     expect("where heard messages begin", ZUWENDRYK_HEARD_AT(5), 30);
     expect("where records begin", ZUWENDRYK_RECORDS_AT(5, few), 36);
-    expect("the longest sheet", ZUWENDRYK_RECORDS_AT(ZUWENDRYK_MOST_ENTRIES, ZUWENDRYK_MOST_HEARD) + 3 + 255 * (1 + 2 * ZUWENDRYK_MOST_ITEMS),
+    expect("the longest sheet", ZUWENDRYK_RECORDS_AT(ZUWENDRYK_MOST_ENTRIES, ZUWENDRYK_MOST_HEARD) + 5 + 255 * (1 + 2 * ZUWENDRYK_MOST_ITEMS),
            sizeof sheet);
 }
 
-/* The verdict on a sheet of one atom that nobody heard, with no rung and so much of the buffer. */
-static uint32_t alone(unsigned atom, size_t space) {
-    uint8_t one[] = {'S', 'H', 'T', '1', 0, 1, 0, 0, 0, 0, 0, 14, 0, 3, ZUWENDRYK_KIND_ATOM, 0, 0};
-    one[15] = atom >> 8 & 255u;
-    one[16] = atom & 255u;
-    return zuwendryk_verdict(one, sizeof one, 0, 0, buffer, space);
+/* The verdict on a sheet of one atom that nobody heard, in a record of this length, with no rung and so much of the buffer. */
+static uint32_t atom(uint32_t number, uint8_t length, size_t space) {
+    uint8_t one[] = {'S', 'H', 'T', '1', 0, 1, 0, 0, 0, 0, 0, 14, 0, length, ZUWENDRYK_KIND_ATOM, 0, 0, 0, 0};
+    for (size_t i = 14u + length; i > 15; number >>= 8) one[--i] = number & 255u;
+    return zuwendryk_verdict(one, 14u + length, 0, 0, buffer, space);
+}
+
+static uint32_t alone(uint32_t number, size_t space) { return atom(number, 3, space); }
+
+/* Both records of an atom, and the numbers whose parts are names: those are no names. */
+static void atoms(void) {
+    static const uint32_t names[] = {0, 7, ZUWENDRYK_NAMES - 1};
+    static const uint32_t others[] = {ZUWENDRYK_NAMES, 1007, 65535, 65536, 65543, 458752, 16777216, 117440512, 2147483648u, 4294967295u};
+    for (size_t i = 0; i < sizeof names / sizeof names[0]; i++)
+        expect("the answer to a name in a long record", atom(names[i], 5, sizeof buffer), ZUWENDRYK_REACHED);
+    for (size_t i = 0; i < sizeof others / sizeof others[0]; i++)
+        expect("the answer to another atom in a long record", atom(others[i], 5, sizeof buffer), ZUWENDRYK_OUT_OF_REACH);
+    expect("the answer to a record of length 1", atom(7, 1, sizeof buffer), ZUWENDRYK_BAD_RECORD);
+    expect("the answer to a record of length 2", atom(7, 2, sizeof buffer), ZUWENDRYK_BAD_RECORD);
+    expect("the answer to a record of length 4", atom(7, 4, sizeof buffer), ZUWENDRYK_BAD_RECORD);
 }
 
 static void version(void) {
@@ -49,6 +63,7 @@ static void version(void) {
 int main(void) {
     sizes();
     version();
+    atoms();
     expect("the answer to a sheet of zeros", zuwendryk_verdict(sheet, sizeof sheet, 0, 0, buffer, sizeof buffer), ZUWENDRYK_NO_SHEET);
     expect("the answer to the last name on the hull label", alone(ZUWENDRYK_NAMES - 1, sizeof buffer), ZUWENDRYK_REACHED);
     expect("the answer to the first atom that is none", alone(ZUWENDRYK_NAMES, sizeof buffer), ZUWENDRYK_OUT_OF_REACH);

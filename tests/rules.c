@@ -1,21 +1,23 @@
-/* The header's kinds, rules and places, on one sheet whose goal takes a rung by each rule; and with another goal, what is missing of it. */
+/* The header's kinds, rules and places, on one sheet whose goal takes a rung by each rule; and with another goal, what is missing of it. One atom
+ * stands in a long record. */
 #include "zuwendryk.h"
 #include <stdio.h>
 #include <string.h>
 
 #define N(x) 0, (x)                /* a number below 256 */
 #define SECRET(x) 3, 232 + (x)     /* 1,000 and a number below 24: an atom that isn't on the hull label */
+#define LARGE(x) 0, 1, N(x)        /* 65,536 and a number below 256, in 4 bytes */
 #define PLACE(at, len) N(at), N(len)
 
 enum { X, Y, M, Z, PAIR, SEAL, SUM, JOINED, GOAL, ZERO, ENTRIES, HEARD = 3, RECORDS = ZUWENDRYK_RECORDS_AT(ENTRIES, HEARD) };
 
 static const uint8_t sheet[] = {
     'S', 'H', 'T', '1', N(ENTRIES), N(HEARD), N(GOAL),
-    PLACE(RECORDS, 3), PLACE(RECORDS + 3, 3), PLACE(RECORDS + 6, 3), PLACE(RECORDS + 9, 3), PLACE(RECORDS + 12, 5),
-    PLACE(RECORDS + 17, 5), PLACE(RECORDS + 22, 5), PLACE(RECORDS + 27, 5), PLACE(RECORDS + 32, 5), PLACE(RECORDS + 37, 1),
+    PLACE(RECORDS, 3), PLACE(RECORDS + 3, 5), PLACE(RECORDS + 8, 3), PLACE(RECORDS + 11, 3), PLACE(RECORDS + 14, 5),
+    PLACE(RECORDS + 19, 5), PLACE(RECORDS + 24, 5), PLACE(RECORDS + 29, 5), PLACE(RECORDS + 34, 5), PLACE(RECORDS + 39, 1),
     N(PAIR), N(SEAL), N(SUM),
     ZUWENDRYK_KIND_ATOM, SECRET(10),
-    ZUWENDRYK_KIND_ATOM, SECRET(11),
+    ZUWENDRYK_KIND_ATOM, LARGE(11),
     ZUWENDRYK_KIND_ATOM, SECRET(12),
     ZUWENDRYK_KIND_ATOM, SECRET(13),
     ZUWENDRYK_KIND_PAIR, N(X), N(Y),

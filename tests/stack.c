@@ -16,7 +16,7 @@
 
 enum { PAGE = 4096, MUCH = 256 * PAGE, SPARE = 32 * PAGE };
 
-/* The worst sheet has 8 atoms, then pairs, seals and twice sums of 64 items in turn. So its last record is a sum. */
+/* The worst sheet has 8 atoms, half of them in long records, then pairs, seals and twice sums of 64 items in turn. So its last record is a sum. */
 enum {
     ENTRIES = ZUWENDRYK_MOST_ENTRIES,
     HEARD = ZUWENDRYK_MOST_HEARD,
@@ -24,7 +24,7 @@ enum {
     LAST_HEARD = ZUWENDRYK_HEARD_AT(ENTRIES) + 2 * (HEARD - 1),
     RECORDS = ZUWENDRYK_RECORDS_AT(ENTRIES, HEARD),
     SUM = 1 + 2 * ZUWENDRYK_MOST_ITEMS,
-    LENGTH = RECORDS + 8 * 3 + (ENTRIES - 8) / 4 * (5 + 5 + SUM + SUM),
+    LENGTH = RECORDS + 4 * 3 + 4 * 5 + (ENTRIES - 8) / 4 * (5 + 5 + SUM + SUM),
     LAST_RECORD = LENGTH - SUM
 };
 
@@ -97,8 +97,9 @@ static uint8_t *put_record(uint8_t *at, size_t entry) {
     static const uint8_t kinds[] = {ZUWENDRYK_KIND_PAIR, ZUWENDRYK_KIND_SEAL};
     if (entry >= 8 && entry % 4 > 1) return put_sum(at, entry);
     if (entry < 8) {
-        *at = ZUWENDRYK_KIND_ATOM;
-        return put(at + 1, 1000 + entry);
+        *at++ = ZUWENDRYK_KIND_ATOM;
+        if (entry % 2) at = put(at, 1); /* 65,536 more */
+        return put(at, 1000 + entry);
     }
     *at = kinds[entry % 4];
     return put(put(at + 1, part(entry)), part(entry));
