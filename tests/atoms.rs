@@ -11,7 +11,7 @@ mod tally;
 use cards::card_of;
 use sheets::{entries_over, sheet, Entry, Random};
 use std::io::Write;
-use std::path::{Path, PathBuf};
+use std::path::PathBuf;
 use std::process::{Command, Stdio};
 use tally::Tally;
 
@@ -146,13 +146,14 @@ fn faults(c: &mut Checks) {
 // Two names of one number are noted, whichever records they stand in. Numbers that share their low or high half aren't one term.
 fn notes(c: &mut Checks) {
     use Entry::*;
-    let note = |line: usize, name: &str, first: &str, number: u32| {
-        format!("<stdin>:{line}:1: note: \"{name}\" and \"{first}\" (line 1) are one term, since both are atom {number}; without a number an atom is like no other\n")
+    let note = |line: usize, name: &str, number: u32| {
+        let both = format!("note: \"{name}\" and \"old\" (line 1) are one term, since both are atom {number}");
+        format!("<stdin>:{line}:1: {both}; without a number an atom is like no other\n")
     };
-    let both = note(2, "new", "old", 1007) + &note(3, "third", "old", 1007);
+    let both = note(2, "new", 1007) + &note(3, "third", 1007);
     c.assembles("old atom 1007\nnew atom 1007 long\nthird atom 1007\ngoal old\n", &sheet(&[Atom(1007), Long(1007), Atom(1007)], &[], 0), &both);
-    c.assembles("old atom 1007 long\nnew atom 1007\ngoal old\n", &sheet(&[Long(1007), Atom(1007)], &[], 0), &note(2, "new", "old", 1007));
-    c.assembles("old atom 70000\nnew atom 70000 long\ngoal new\n", &sheet(&[Long(70000), Long(70000)], &[], 1), &note(2, "new", "old", 70000));
+    c.assembles("old atom 1007 long\nnew atom 1007\ngoal old\n", &sheet(&[Long(1007), Atom(1007)], &[], 0), &note(2, "new", 1007));
+    c.assembles("old atom 70000\nnew atom 70000 long\ngoal new\n", &sheet(&[Long(70000), Long(70000)], &[], 1), &note(2, "new", 70000));
     let apart = [7, 65543, 458752, 131079, 7 << 24];
     let text: String = apart.iter().enumerate().map(|(i, number)| format!("n{i} atom {number}\n")).collect();
     c.assembles(&format!("{text}goal n0\n"), &sheet(&apart.map(Atom), &[], 0), "");
@@ -185,10 +186,10 @@ fn one_key(c: &mut Checks) {
 
 // A name on the hull label in both records is one name, and one box.
 fn one_name(c: &mut Checks) {
-    let (text, bits) = ("key atom\nsign atom 7 long\n2 atom 7\n3 atom 65543\nmasked sum key 2\nheard masked 2\ngoal key\n", "key sum of sign, masked\n2 is the same term as sign\n");
+    let text = "key atom\nsign atom 7 long\n2 atom 7\n3 atom 65543\nmasked sum key 2\nheard masked 2\ngoal key\n";
     let judged = c.run(&["judge"], text.as_bytes()).text();
-    let start = "reached: a listener who heard the first 1 of 2 messages gains key in 1 step\non the hull label: sign\ncut 0 before any message: out of reach, 1 known\n";
-    c.check(&judged, judged.starts_with(start) && judged.ends_with(bits));
+    let (start, end) = ("on the hull label: sign\ncut 0 before any message: out of reach, 1 known\n", "key sum of sign, masked\n2 is the same term as sign\n");
+    c.check(&judged, judged.starts_with("reached: ") && judged.contains(start) && judged.ends_with(end));
     let drawn = c.run(&["draw", "-"], text.as_bytes()).text();
     c.check(&drawn, drawn.matches("<g class=\"public").count() == 1 && drawn.contains("on the hull label: sign = atom 7, the same as entry 2</title>"));
 }
@@ -231,9 +232,9 @@ fn random_sheets(c: &mut Checks) {
 
 // The longest good sheet has a long record and 255 sums of 64 items. Other lengths of an atom's record are bad ones.
 fn lengths(c: &mut Checks) {
-    let text = |long: &str| format!("0 atom 7{long}\n{}heard{}\ngoal 0\n", (1..256).map(|i| format!("{i} sum{}\n", " 0".repeat(64))).collect::<String>(), " 0".repeat(256));
-    let longest = c.run(&["assemble"], text(" long").as_bytes()).out;
-    let short = c.run(&["assemble"], text("").as_bytes()).out;
+    let sums: String = (1..256).map(|i| format!("{i} sum{}\n", " 0".repeat(64))).collect();
+    let text = |atom: &str| format!("0 atom {atom}\n{sums}heard{}\ngoal 0\n", " 0".repeat(256));
+    let [longest, short] = ["7 long", "7"].map(|atom| c.run(&["assemble"], text(atom).as_bytes()).out);
     c.check(&format!("{} and {} bytes", longest.len(), short.len()), longest.len() == 34446 && short.len() == 34444);
     let back = c.run(&["disassemble"], &longest);
     c.assembles(&back.text(), &longest, "");
@@ -251,7 +252,7 @@ fn lengths(c: &mut Checks) {
 fn main() {
     let tool = std::env::args_os().nth(1).map(PathBuf::from).and_then(|path| path.canonicalize().ok()).expect("the tool's path");
     let dir = std::env::temp_dir().join(format!("sheet-atoms-test-{}", std::process::id()));
-    std::fs::create_dir_all(Path::new(&dir)).expect("a folder for the test");
+    std::fs::create_dir_all(&dir).expect("a folder for the test");
     let mut c = Checks { tool, dir: dir.clone(), tally: Tally::default() };
     records(&mut c);
     an_entry_named_long(&mut c);

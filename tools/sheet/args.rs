@@ -94,7 +94,7 @@ const DISASSEMBLE: &str = "\
 usage: sheet disassemble [SHEET] [-o FILE]
 
 Reads a sheet's bytes and writes its text notation, with numbers as labels. Comments have terms in short, and say which atoms are on the
-hull label.
+hull label. A long record whose number would fit the short one has the word long, so that assemble writes the same bytes.
 A sheet that would be refused gives the refusal's number and word.
 ";
 
