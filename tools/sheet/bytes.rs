@@ -1,4 +1,4 @@
-// Document 01's sheet bytes: `encode` writes them, `decode` reads them or gives the refusal of the grounding table.
+// The sheet bytes of document 01, with the long records of document 02's E10: `encode` writes them, `decode` reads them or gives the refusal of the grounding table.
 
 use super::model::{Entry, Sheet, MOST_ENTRIES, MOST_HEARD, MOST_ITEMS};
 
@@ -33,7 +33,7 @@ fn record(entry: &Entry) -> Vec<u8> {
     bytes
 }
 
-// Appends a number in 2 bytes, high byte first. Every number of a good sheet fits.
+// Appends a number in 2 bytes, high byte first. Every number of a good sheet fits, an atom's in its pieces.
 fn put(bytes: &mut Vec<u8>, number: usize) {
     bytes.extend((number as u16).to_be_bytes());
 }
