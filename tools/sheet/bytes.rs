@@ -1,4 +1,4 @@
-// The sheet bytes of document 01, with the long records of document 02's E10: `encode` writes them, `decode` reads them or gives the refusal of the grounding table.
+// The sheet bytes of documents 01 and 02: `encode` writes them, `decode` reads them or gives the refusal of the grounding table.
 
 use super::model::{Entry, Sheet, MOST_ENTRIES, MOST_HEARD, MOST_ITEMS};
 
