@@ -23,9 +23,9 @@ extern "C" {
  * the buffer another layout:
  *
  *     4.0.0   An atom's number has up to 32 bits: its record may be long, and the longest sheet has 34,446 bytes. A caller that was made for
- *             version 3 has nothing to do but to be compiled anew, if it takes the length of its reading area from ZUWENDRYK_LONGEST_SHEET: it
- *             may read up to 34,447 bytes now, to tell a sheet that is too long. A sheet of at most 34,444 bytes without long atom records
- *             gets the same answer and the same bytes. A long atom record was refused with 5, a sheet of 34,445 or 34,446 bytes with 1.
+ *             version 3 is compiled anew if it takes the length of its reading area from ZUWENDRYK_LONGEST_SHEET: one that cuts its input
+ *             after 34,445 bytes no longer has a sheet that is too long. A sheet of at most 34,444 bytes without long atom records gets the
+ *             same answer and the same bytes. A long atom record was refused with 5, a sheet of 34,445 or 34,446 bytes with 1.
  *     3.0.0   Used set and remainder, 32 bytes each, stand between the gained set and the rungs. A caller that was made for version 2 has to
  *             lend 64 bytes more and to look for each rung 64 bytes later. If it has both from ZUWENDRYK_BUFFER, it is only compiled anew. A
  *             buffer that was just long enough before is refused now. Answers, gained set and rungs are as they were.

@@ -3,7 +3,7 @@
 -- first, high byte first; `short-read`, `long-read`, each number below 2 ^ 16 has a short record and each below 2 ^ 32 a long one, which read as it;
 -- `either-read`, the same number in either length is the same entry; `same-atoms`, on a good sheet two atoms have the same representative exactly
 -- when their numbers are equal. Assumes nothing.
-use mathlib.Core.Path.{_≡_, refl, sym, ap, ap₂, _∙_, subst}
+use mathlib.Core.Path.{_≡_, refl, sym, ap, _∙_, subst}
 use mathlib.Core.Bool.{Bool, true, false, _||_}
 use mathlib.Core.List.{List, [], _∷_}
 use mathlib.Core.Logic.{_⊎_, inl, inr, ⊎-elim, _↔_}
@@ -13,7 +13,7 @@ use lib.ListN.{length, getD}
 use borrow.Author.Tests.{eqb-true}
 use lib.Dec.{eqb}
 use Rattle.deduction.specs.Term.{Term, atom, _≈_, same}
-use Rattle.deduction.specs.Entry.{Entry, Atom, build, termAt}
+use Rattle.deduction.specs.Entry.{Atom, build, termAt}
 use Rattle.deduction.specs.Standard.{repAt}
 use Rattle.deduction.proofs.Distinct.{atom-same}
 use Rattle.deduction.proofs.Terms.{termAt-build}

@@ -6,7 +6,7 @@ use mathlib.Core.Bool.{true, false, not, _||_}
 use mathlib.Core.List.{List}
 use Prim.Native.Nat.{ℕ, _+_, _≤_, _<_}
 use borrow.Author.Tests.{ltb-false, leb-false, not-false}
-use lib.Dec.{ltb, leb}
+use lib.Dec.{ltb}
 use lib.ListN.{length, take}
 use Rattle.deduction.specs.Entry.{Downward}
 use Rattle.dag.specs.Sheet.{letters, countOf, traceLength, goalOf, offsetAt, lengthAt, traceAt, recordsFrom, beginAt, recordAt}

@@ -14,8 +14,8 @@ use lib.Dec.{eqb, leb}
 use lib.ListN.{length}
 use Rattle.deduction.specs.Entry.{parts}
 use Rattle.deduction.proofs.Standard.First.{both-true}
-use Rattle.dag.specs.Sheet.{countOf, traceLength, offsetAt, lengthAt, recordsFrom, beginAt, recordAt}
-use Rattle.dag.specs.Record.{kindOf, fits, itemCount, itemAt, decodeAs, entryAt}
+use Rattle.dag.specs.Sheet.{countOf, lengthAt, recordsFrom, beginAt, recordAt}
+use Rattle.dag.specs.Record.{kindOf, fits, itemCount, itemAt, decodeAs}
 use Rattle.dag.specs.Refusal.{longest, badCount, badPairs, badRecords}
 use Rattle.dag.proofs.Laws.Parts.{item-listed}
 use Rattle.dag.proofs.Laws.Passed.{some-entry, few-entries, few-messages, record-follows, record-inside, end-reached, record-fits, parts-below, record-length}
