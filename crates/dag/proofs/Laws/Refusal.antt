@@ -91,7 +91,12 @@ module _ (f : ℕ → ℕ) where
       suc-not-zero : suc k ≡ 0 → ⊥
       suc-not-zero r = omega arith
 
-  -- none of all is none of each
+  -- none of each is none of all, and the converse
+  pub all-none : (n : ℕ) → ((i : ℕ) → i < n → f i ≡ 0) → first f n ≡ 0
+  unfolding first
+  all-none zero h = refl
+  all-none (suc n) h = orElse-none (first f n) (f n) (all-none n (λ i l. h i (omega (arith, l)))) ∙ h n (omega arith)
+
   pub first-none : (n : ℕ) → first f n ≡ 0 → (i : ℕ) → i < n → f i ≡ 0
   unfolding first
   first-none zero p i h = absurd (omega arith)
@@ -109,6 +114,11 @@ anyFrom-append i (x ∷ xs) y = ap (λ (b : Bool). leb i x || b) (anyFrom-append
 pub anyFrom-more : (i : ℕ) (f : ℕ → ℕ) (n : ℕ) → anyFrom i (listed f n) ≡ false → f n < i → anyFrom i (listed f (n + 1)) ≡ false
 unfolding listed
 anyFrom-more i f n p h = ap (λ (m : ℕ). anyFrom i (listed f m)) (add-one n) ∙ anyFrom-append i (listed f n) (f n) ∙ or-no p (lt-leb i (f n) h)
+
+pub none-from : (i : ℕ) (f : ℕ → ℕ) (n : ℕ) → ((j : ℕ) → j < n → f j < i) → anyFrom i (listed f n) ≡ false
+unfolding anyFrom listed
+none-from i f zero h = refl
+none-from i f (suc n) h = anyFrom-append i (listed f n) (f n) ∙ or-no (none-from i f n (λ j l. h j (omega (arith, l)))) (lt-leb i (f n) (h n (omega arith)))
 
 pub anyFrom-found : (i : ℕ) (f : ℕ → ℕ) (j n : ℕ) → j < n → i ≤ f j → anyFrom i (listed f n) ≡ true
 unfolding listed
