@@ -4,28 +4,21 @@
 #[allow(dead_code)] // each test uses a part
 mod cards;
 mod plain;
+mod ran;
 #[allow(dead_code)]
 mod sheets;
 mod tally;
 
 use cards::card_of;
+use ran::Run;
 use sheets::{entries_over, sheet, Entry, Random};
-use std::io::Write;
 use std::path::PathBuf;
-use std::process::{Command, Stdio};
 use tally::Tally;
 
 struct Checks {
     tool: PathBuf,
     dir: PathBuf,
     tally: Tally,
-}
-
-#[derive(PartialEq)]
-struct Run {
-    status: i32,
-    out: Vec<u8>,
-    err: String,
 }
 
 impl Run {
@@ -40,13 +33,7 @@ impl Checks {
     }
 
     fn run(&self, words: &[&str], input: &[u8]) -> Run {
-        let mut command = Command::new(&self.tool);
-        command.args(words).current_dir(&self.dir).stdin(Stdio::piped()).stdout(Stdio::piped()).stderr(Stdio::piped());
-        let mut child = command.spawn().expect("the tool starts");
-        // A run that ends before it reads everything breaks the pipe, which is no fault.
-        let _ = child.stdin.take().map(|mut stdin| stdin.write_all(input));
-        let done = child.wait_with_output().expect("the tool ends");
-        Run { status: done.status.code().unwrap_or(-1), out: done.stdout, err: String::from_utf8_lossy(&done.stderr).into_owned() }
+        ran::run(&self.tool, &self.dir, words, input)
     }
 
     // The text assembles to these bytes without a word, or with this note.

@@ -3,6 +3,7 @@
 
 mod cards;
 mod plain;
+mod ran;
 #[allow(dead_code)] // each test uses a part
 mod sheets;
 mod tally;
@@ -22,11 +23,10 @@ mod text;
 mod words;
 
 use cards::{card_of, large, random_sheet};
+use ran::Run;
 use sheets::{damage, refusal, sheet, Entry, Random};
 use std::fs;
-use std::io::Write;
 use std::path::{Path, PathBuf};
-use std::process::{Command, Stdio};
 use tally::Tally;
 
 struct Checks {
@@ -35,26 +35,13 @@ struct Checks {
     tally: Tally,
 }
 
-// What a run of the tool gave.
-struct Run {
-    status: i32,
-    out: Vec<u8>,
-    err: String,
-}
-
 impl Checks {
     fn check(&mut self, what: &str, holds: bool) {
         self.tally.check(what, holds);
     }
 
     fn run(&self, words: &[&str], input: &[u8]) -> Run {
-        let mut command = Command::new(&self.tool);
-        command.args(words).current_dir(&self.dir).stdin(Stdio::piped()).stdout(Stdio::piped()).stderr(Stdio::piped());
-        let mut child = command.spawn().expect("the tool starts");
-        // A run that ends before it reads everything breaks the pipe, which is no fault.
-        let _ = child.stdin.take().map(|mut stdin| stdin.write_all(input));
-        let done = child.wait_with_output().expect("the tool ends");
-        Run { status: done.status.code().unwrap_or(-1), out: done.stdout, err: String::from_utf8_lossy(&done.stderr).into_owned() }
+        ran::run(Path::new(&self.tool), &self.dir, words, input)
     }
 
     // A run that fails: this status, one line on standard error with these parts, nothing on standard output.

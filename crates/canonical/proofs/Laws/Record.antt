@@ -4,7 +4,7 @@
 use mathlib.Core.Path.{_≡_, refl, sym, ap, subst}
 use mathlib.Core.Bool.{Bool, true, false, cond}
 use mathlib.Core.Logic.{by-cases}
-use mathlib.Core.List.{List, [], _∷_, List·Memᴰ, List·Memᴰ·head, List·Memᴰ·tail}
+use mathlib.Core.List.{List, List·Memᴰ, List·Memᴰ·head, List·Memᴰ·tail}
 use Prim.Native.Nat.{ℕ, zero, suc, _+_, _*_, _-_, _/_, _^_, _≤_, _<_}
 use native.Mathlib.Decide.{decLt}
 use native.Mathlib.Omega.{arith}
@@ -16,6 +16,7 @@ use Rattle.deduction.specs.Entry.{Entry, Zero, Atom, Pair, Enc, Sum, parts}
 use Rattle.deduction.specs.Standard.{xorAll, buildSet}
 use Rattle.dag.specs.Sheet.{numberAt, recordAt, listed, offsetAt, lengthAt}
 use Rattle.dag.specs.Record.{kindOf, fits, itemCount, itemAt, atomOf, decodeAs, entryAt}
+use Rattle.dag.proofs.Laws.Parts.{parts-two}
 use Rattle.canonical.specs.Inner.Key.{keyOf}
 use Rattle.canonical.proofs.Laws.Key.{Narrow}
 
@@ -49,19 +50,11 @@ module _ (rep : ℕ → ℕ) (r : List ℕ) where
 
 -- the parts of a pair and of an encryption
 module _ (r : List ℕ) where
-  two : (k : ℕ) → 2 ≤ k → k ≤ 3 → parts (decodeAs k r) ≡ numberAt r 1 ∷ numberAt r 3 ∷ []
-  unfolding parts decodeAs
-  two zero h l = absurd (omega arith)
-  two (suc zero) h l = absurd (omega arith)
-  two (suc (suc zero)) h l = refl
-  two (suc (suc (suc zero))) h l = refl
-  two (suc (suc (suc (suc k)))) h l = absurd (omega arith)
-
   pub first-part : (k : ℕ) → 2 ≤ k → k ≤ 3 → List·Memᴰ (numberAt r 1) (parts (decodeAs k r))
-  first-part k h l = subst (List·Memᴰ (numberAt r 1)) (sym (two k h l)) (List·Memᴰ·head refl)
+  first-part k h l = subst (List·Memᴰ (numberAt r 1)) (sym (parts-two k r h l)) (List·Memᴰ·head refl)
 
   pub second-part : (k : ℕ) → 2 ≤ k → k ≤ 3 → List·Memᴰ (numberAt r 3) (parts (decodeAs k r))
-  second-part k h l = subst (List·Memᴰ (numberAt r 3)) (sym (two k h l)) (List·Memᴰ·tail (List·Memᴰ·head refl))
+  second-part k h l = subst (List·Memᴰ (numberAt r 3)) (sym (parts-two k r h l)) (List·Memᴰ·tail (List·Memᴰ·head refl))
 
 -- a record without a key has its items for parts, and zero none
 pub items-parts : (rep : ℕ → ℕ) (r : List ℕ) (k : ℕ) → fits k (length r) ≡ true → keyOf rep (decodeAs k r) ≡ 0 → parts (decodeAs k r) ≡ listed (itemAt r) (itemCount r)

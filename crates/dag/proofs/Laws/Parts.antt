@@ -20,7 +20,7 @@ parts-none zero r h = refl
 parts-none (suc zero) r h = refl
 parts-none (suc (suc k)) r h = absurd (omega arith)
 
-parts-two : (k : ℕ) (r : List ℕ) → 2 ≤ k → k ≤ 3 → parts (decodeAs k r) ≡ numberAt r 1 ∷ numberAt r 3 ∷ []
+pub parts-two : (k : ℕ) (r : List ℕ) → 2 ≤ k → k ≤ 3 → parts (decodeAs k r) ≡ numberAt r 1 ∷ numberAt r 3 ∷ []
 unfolding parts decodeAs
 parts-two zero r h l = absurd (omega arith)
 parts-two (suc zero) r h l = absurd (omega arith)
