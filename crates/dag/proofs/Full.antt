@@ -143,9 +143,9 @@ begins zero h = omega (arith, count, trace)
 begins (suc i) h = ap₂ _+_ (offset i (omega (arith, h))) (extent i (omega (arith, h))) ∙ off-next i
 
 -- the heard numbers
-heard : (k : ℕ) → k < 256 → traceAt fullSheet k ≡ 0
+trace-at : (k : ℕ) → k < 256 → traceAt fullSheet k ≡ 0
 unfolding numberAt
-heard k h = ap (λ (n : ℕ). numberAt fullSheet (10 + 4 * n + 2 * k)) count ∙ ap₂ (λ (x y : ℕ). x * 256 + y) (zero-at (10 + 4 * 256 + 2 * k) (omega arith) (omega (arith, h))) (zero-at (10 + 4 * 256 + 2 * k + 1) (omega arith) (omega (arith, h)))
+trace-at k h = ap (λ (n : ℕ). numberAt fullSheet (10 + 4 * n + 2 * k)) count ∙ ap₂ (λ (x y : ℕ). x * 256 + y) (zero-at (10 + 4 * 256 + 2 * k) (omega arith) (omega (arith, h))) (zero-at (10 + 4 * 256 + 2 * k + 1) (omega arith) (omega (arith, h)))
   where
     zero-at : (j : ℕ) → 1034 ≤ j → j < 1546 → getD fullSheet j 0 ≡ 0
     zero-at j l u = full-at j (omega (arith, u)) ∙ byte-later j l ∙ later-before j (λ p. omega (arith, p, u)) (omega (arith, u))
@@ -240,7 +240,7 @@ row7 : notListed fullSheet ≡ 0
 unfolding notListed
 row7 =
     all-none (notListedAt fullSheet) (traceLength fullSheet)
-    (λ k h. sym (when-no 7 (lt-leb (countOf fullSheet) (traceAt fullSheet k) (omega (arith, count, heard k (omega (arith, h, trace)))))))
+    (λ k h. sym (when-no 7 (lt-leb (countOf fullSheet) (traceAt fullSheet k) (omega (arith, count, trace-at k (omega (arith, h, trace)))))))
 
 pub full-good : refusal fullSheet ≡ 0
 unfolding refusal
