@@ -21,6 +21,7 @@ use Rattle.deduction.proofs.Standard.{rep-equal}
 use Rattle.dag.specs.Sheet.{numberAt, countOf, recordAt}
 use Rattle.dag.specs.Record.{kindOf, fits, atomOf, decodeAs, decode, entryAt}
 use Rattle.dag.specs.Refusal.{refusal}
+use Rattle.dag.proofs.Laws.Sheet.{two-bytes}
 use Rattle.dag.proofs.Laws.Record.{fits-short, atom-long, atom-short}
 use Rattle.dag.proofs.Laws.Good.{good}
 
@@ -39,11 +40,8 @@ pub record Reads (r : List ℕ) (a : ℕ) : Type 0 where
 
 pub short-read : (a : ℕ) → a < 2 ^ 16 → Reads (shortRecord a) a
 unfolding fits decodeAs atomOf numberAt
-short-read a h = record { bytes = small; fitting = refl; entry = ap Atom (joined a) }
+short-read a h = record { bytes = small; fitting = refl; entry = ap Atom (two-bytes a) }
   where
-    joined : (x : ℕ) → x / 256 * 256 + x % 256 ≡ x
-    joined x = omega arith
-
     small : (k : ℕ) → getD (shortRecord a) k 0 < 256
     small zero = omega arith
     small (suc zero) = omega (arith, h)

@@ -17,7 +17,7 @@ use Rattle.dag.specs.Sheet.{numberAt, letters, countOf, traceLength, goa
 use Rattle.dag.specs.Record.{kindOf, fits, itemCount, itemAt}
 use Rattle.dag.specs.Refusal.{first, longest, noSheet, badCount, shortList, badPair, badPairs, badRecordAt, badRecords, notListed, notListedAt, refusal}
 use Rattle.dag.proofs.Laws.Refusal.{or-no, when-no, orElse-none, all-none, none-from, equal-same}
-use Rattle.dag.proofs.Laws.Sheet.{length-listed, getD-listed}
+use Rattle.dag.proofs.Laws.Sheet.{two-bytes, length-listed, getD-listed}
 use Rattle.dag.proofs.Laws.Parts.{record-none, record-items}
 use Rattle.dag.proofs.Laws.Passed.{record-length}
 
@@ -111,16 +111,13 @@ number-place k i j p h l =
     ap₂ (λ (x y : ℕ). x * 256 + y) (full-at k (omega (arith, p, h, l)) ∙ byte-place k i j p h (omega (arith, l)))
     (full-at (k + 1) (omega (arith, p, h, l)) ∙ byte-place (k + 1) i (j + 1) (omega (arith, p)) h l)
 
-joined : (x : ℕ) → x / 256 * 256 + x % 256 ≡ x
-joined x = omega arith
-
 offset : (i : ℕ) → i < 256 → offsetAt fullSheet i ≡ off i
 unfolding placeByte
-offset i h = number-place (10 + 4 * i) i 0 (omega arith) h (omega arith) ∙ joined (off i)
+offset i h = number-place (10 + 4 * i) i 0 (omega arith) h (omega arith) ∙ two-bytes (off i)
 
 extent : (i : ℕ) → i < 256 → lengthAt fullSheet i ≡ len i
 unfolding placeByte
-extent i h = number-place (12 + 4 * i) i 2 (omega arith) h (omega arith) ∙ joined (len i)
+extent i h = number-place (12 + 4 * i) i 2 (omega arith) h (omega arith) ∙ two-bytes (len i)
 
 off-next : (i : ℕ) → off i + len i ≡ off (suc i)
 unfolding off len

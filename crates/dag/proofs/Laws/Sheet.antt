@@ -2,7 +2,7 @@
 use mathlib.Core.Path.{_≡_, refl, sym, ap, ap₂, _∙_}
 use mathlib.Core.List.{List, [], _∷_, _++_}
 use mathlib.Core.Logic.{by-cases}
-use Prim.Native.Nat.{ℕ, zero, suc, _+_, _-_, _*_, _≤_, _<_}
+use Prim.Native.Nat.{ℕ, zero, suc, _+_, _-_, _*_, _/_, _%_, _≤_, _<_}
 use native.Mathlib.Nat.{le-of-eq, le-of-lt, le-trans, add-zero}
 use native.Mathlib.Decide.{decLt}
 use native.Mathlib.Numerals.{add-one}
@@ -18,6 +18,10 @@ number-past s i h = sym (ap₂ (λ (x y : ℕ). x * 256 + y) (List·getD-eq-defa
 pub number-last : (s : List ℕ) (i : ℕ) → length s ≤ i + 1 → getD s i 0 * 256 ≡ numberAt s i
 unfolding numberAt
 number-last s i h = sym (ap (λ (y : ℕ). getD s i 0 * 256 + y) (List·getD-eq-default s 0 h) ∙ add-zero (getD s i 0 * 256))
+
+-- a number is what its high byte and its low byte say
+pub two-bytes : (x : ℕ) → x / 256 * 256 + x % 256 ≡ x
+two-bytes x = omega arith
 
 -- a part that begins past the end is empty
 pub part-past : (s : List ℕ) (off len : ℕ) → length s < off → [] ≡ take len (drop off s)
