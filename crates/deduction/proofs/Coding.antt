@@ -1,18 +1,18 @@
 -- Terms coded as numbers, read as finite sets of places (Ackermann's coding).
 -- Defined: `bit`, the set of one place; `place`, a different place for each kind and parts; `code`, the set of a term: zero is empty,
--- a sum is the exclusive or, an atom, a pair or an encryption is one place, made from its kind and the codes of its parts.
+-- a sum is the exclusive or, any other term is one place, made from its kind and its number or the codes of its parts.
 -- All three stay shut, so that no huge number is computed. Shown: the members of a bit, of a sum; `place-same`; the clauses of `code`;
 -- terms that are ≈ have one code. Assumes nothing.
 use mathlib.Core.Path.{_≡_, refl, sym, ap, ap₂, _∙_}
 use mathlib.Core.Bool.{Bool, true, false, true≢false, xor}
 use mathlib.Core.Logic.{_⊎_, inl, inr}
-use Prim.Native.Nat.{ℕ, _+_, _*_, _^_}
+use Prim.Native.Nat.{ℕ, _+_, _*_, _^_, _≤_}
 use native.Mathlib.Omega.{arith}
 use lib.Bits.{bitXor, xor-comm, xor-self, xor-zero-r}
 use borrow.Author.Tests.{eq-eqb, ne-eqb, eqb-true}
 use Rattle.bitset.specs.Set.{member}
 use Rattle.bitset.proofs.Laws.Member.{member-empty, member-sum, member-single, sum-assoc}
-use Rattle.deduction.specs.Term.{Term, 𝟎, atom, pair, enc, _⊕_, _≈_, assoc, comm, unit, self, in-pair, in-enc, in-sum, same, flip, then}
+use Rattle.deduction.specs.Term.{Side, private, public, Term, 𝟎, atom, pair, enc, half, aenc, _⊕_, _≈_, assoc, comm, unit, self, in-pair, in-enc, in-aenc, in-sum, same, flip, then}
 
 -- the set of the place p alone
 pub bit : ℕ → ℕ
@@ -86,7 +86,7 @@ couple-same x y x′ y′ h = (
     right (inl e) = absurd (omega arith)
     right (inr e) = omega arith
 
--- the place of a kind (0 atom, 1 pair, 2 encryption) with two parts
+-- the place of a kind (0 atom, 1 pair, 2 encryption, 4 private half, 5 public half, 6 asymmetric encryption) with two parts
 pub place : ℕ → ℕ → ℕ → ℕ
 place k x y = couple k (couple x y)
 
@@ -98,11 +98,32 @@ place-same k x y k′ x′ y′ h =
     let inner = couple-same x y x′ y′ (outer .1) in
     (outer .0, inner .0, inner .1)
 
+-- the place of a half
+abbrev pub sidePlace : Side → ℕ
+sidePlace private = 4
+sidePlace public = 5
+
+abbrev pub halfPlace : Side → ℕ → ℕ
+halfPlace s a = place (sidePlace s) a 0
+
+pub side-same : (s s′ : Side) → sidePlace s ≡ sidePlace s′ → s ≡ s′
+side-same private private h = refl
+side-same private public h = absurd (omega arith)
+side-same public private h = absurd (omega arith)
+side-same public public h = refl
+
+-- no other kind has a half's place
+pub side-range : (s : Side) → (4 ≤ sidePlace s) × (sidePlace s ≤ 5)
+side-range private = (omega arith, omega arith)
+side-range public = (omega arith, omega arith)
+
 pub code : Term → ℕ
 code 𝟎 = 0
 code (atom a) = bit (place 0 a 0)
 code (pair a b) = bit (place 1 (code a) (code b))
 code (enc m k) = bit (place 2 (code m) (code k))
+code (half s a) = bit (halfPlace s a)
+code (aenc m k) = bit (place 6 (code m) (code k))
 code (a ⊕ b) = bitXor (code a) (code b)
 
 pub code-zero : code 𝟎 ≡ 0
@@ -120,6 +141,14 @@ code-pair a b = refl
 pub code-enc : (m k : Term) → code (enc m k) ≡ bit (place 2 (code m) (code k))
 unfolding code
 code-enc m k = refl
+
+pub code-half : (s : Side) (a : ℕ) → code (half s a) ≡ bit (halfPlace s a)
+unfolding code
+code-half s a = refl
+
+pub code-aenc : (m k : Term) → code (aenc m k) ≡ bit (place 6 (code m) (code k))
+unfolding code
+code-aenc m k = refl
 
 pub code-sum : (a b : Term) → code (a ⊕ b) ≡ bitXor (code a) (code b)
 unfolding code
@@ -142,6 +171,7 @@ same-code (unit {t = t}) = xor-zero-r (code t)
 same-code (self {t = t}) = xor-self (code t)
 same-code (in-pair p q) = ap₂ (λ (x y : ℕ). bit (place 1 x y)) (same-code p) (same-code q)
 same-code (in-enc p q) = ap₂ (λ (x y : ℕ). bit (place 2 x y)) (same-code p) (same-code q)
+same-code (in-aenc p q) = ap₂ (λ (x y : ℕ). bit (place 6 x y)) (same-code p) (same-code q)
 same-code (in-sum p q) = ap₂ bitXor (same-code p) (same-code q)
 same-code same = refl
 same-code (flip p) = sym (same-code p)

@@ -1,7 +1,8 @@
 -- Exactness: steps within the entries of a sheet lose nothing against derivations over terms of any size.
--- Shown: `exactness`, a set of entries closed under the six rules within the sheet, with the start, has every entry that any derivation
+-- Shown: `exactness`, a set of entries closed under the eight rules within the sheet, with the start, has every entry that any derivation
 -- from the start holds; `exactness-from`, the same for a start of any terms that can be put together from such a set; `reach-exact`, the
--- entries reached within the sheet are exactly the derivable ones; `exactness-sums`, of sums of entries those of such a set are held and no others; `kept-underivable`, a way to show that an entry isn't derivable.
+-- entries reached within the sheet are exactly the derivable ones; `exactness-sums`, of sums of entries those of such a set are held and no others; `kept-underivable`, a way to show that an entry isn't derivable;
+-- `half-not-gained`, a half that is no entry's term is not derivable.
 -- Assumes nothing: no excluded middle, and the set of entries may be any predicate.
 use mathlib.Core.Path.{_≡_, sym, ap, _∙_, subst}
 use mathlib.Core.Bool.{true}
@@ -10,7 +11,7 @@ use mathlib.Core.List.{List, map, List·Memᴰ, Memᴰ·of-map}
 use Prim.Native.Nat.{ℕ, _<_}
 use lib.Bits.{bitXor}
 use Rattle.bitset.specs.Set.{member}
-use Rattle.deduction.specs.Term.{Term, sumOf, _≈_}
+use Rattle.deduction.specs.Term.{Side, Term, half, sumOf, _≈_}
 use Rattle.deduction.specs.Entry.{Entry, termAt, Downward}
 use Rattle.deduction.specs.Standard.{sumOfSet}
 use Rattle.deduction.specs.Derivation.{Holds, Derivation, Derivable}
@@ -22,7 +23,7 @@ use Rattle.deduction.proofs.Standard.Codes.{code-sumOfSet}
 use Rattle.deduction.proofs.Terms.{termAt-build}
 use Places.{OnSheet, entry-places}
 use Synthesis.{Synth}
-use Analysis.{derivation-gained, derivation-sums}
+use Analysis.{derivation-gained, derivation-sums, derivation-half}
 use Invariant.{Kept, kept-closed}
 pub use Derive.{reach-derivable}
 pub mod Within
@@ -74,6 +75,8 @@ reach-closed t n start =
       join = λ i j k hi hj hk r s e. Reach.join hi hj hk r s e;
       encrypt = λ i j k hi hj hk r s e. Reach.encrypt hi hj hk r s e;
       sum = λ i js hi r e. Reach.sum js hi (λ j m. r j m .0) (λ j m. r j m .1) e;
+      adecrypt = λ i j k s a hi hj hk r c e q. Reach.adecrypt s a hi hj hk r c e q;
+      aencrypt = λ i j k s a hi hj hk r c e q. Reach.aencrypt s a hi hj hk r c e q;
     }
 
 pub reach-exact : (e : ℕ → Entry) (n : ℕ) → Downward e n → (start : List ℕ) → ((i : ℕ) → List·Memᴰ i start → i < n)
@@ -90,3 +93,11 @@ pub kept-underivable : (e : ℕ → Entry) (n : ℕ) → Downward e n
     → (i : ℕ) → i < n → ¬ P (code (termAt e i)) → ¬ Derivable (map (termAt e) start) (termAt e i)
 kept-underivable e n down P none add kept start from i h lacks (g, d, k) =
     lacks (exactness e n down (λ j. P (code (termAt e j))) (kept-closed (termAt e) e n down (termAt-build e n down) P none add kept) start from g d i h k)
+
+-- "An opposite half without an entry can't be gained": a half that is no entry's term is not derivable from any start of entries
+pub half-not-gained : (e : ℕ → Entry) (n : ℕ) → Downward e n → (start : List ℕ) → ((i : ℕ) → List·Memᴰ i start → i < n)
+    → (s : Side) (a : ℕ) → ((i : ℕ) → i < n → ¬ (termAt e i ≈ half s a)) → ¬ Derivable (map (termAt e) start) (half s a)
+half-not-gained e n down start low s a none (g, d, k) =
+    let (i, h, r, q) = derivation-half (termAt e) e n down (termAt-build e n down) (Reach (termAt e) n start) (reach-closed (termAt e) n start)
+    (start-made e n (Reach (termAt e) n start) start (λ j m. (low j m, Reach.begin m))) d s a k in
+    none i h q

@@ -1,7 +1,8 @@
--- Reading order: the code of a term, equality decided by it, the terms of entries, exactness, elimination, the sets of standard entries,
+-- Reading order: the code of a term, equality decided by it, terms with two parts, the terms of entries, exactness, elimination, the sets of standard entries,
 -- the steps of a run, its verdicts and its replay.
 pub mod Coding
 pub mod Pieces
+pub mod Forms
 pub mod Distinct
 pub mod Terms
 pub mod Exactness

@@ -30,6 +30,7 @@ use Next.{knowledge-learnt, heads-more}
 use Replay.{endState, end-exact, made-replays-from}
 use Run.{Ran, ran, count-more, count-le, ended-derivable, ended-underivable, ended-exhausted}
 pub mod Head
+pub mod Opener
 pub mod Numbers
 pub mod Drawn
 pub mod Offers

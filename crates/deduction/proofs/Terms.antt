@@ -9,8 +9,8 @@ use native.Mathlib.Decide.{decLt}
 use native.Mathlib.Omega.{arith}
 use lib.ListN.{length, getD, length-append, List·getD-append}
 use lib.Seq.{getD-at}
-use Rattle.deduction.specs.Term.{Term, 𝟎, pair, enc, sumOf}
-use Rattle.deduction.specs.Entry.{Entry, Zero, Atom, Pair, Enc, Sum, build, terms, termAt, parts, Downward}
+use Rattle.deduction.specs.Term.{Term, 𝟎, pair, enc, aenc, sumOf}
+use Rattle.deduction.specs.Entry.{Entry, Zero, Atom, Pair, Enc, Sum, Half, Aenc, build, terms, termAt, parts, Downward}
 
 pub terms-length : (e : ℕ → Entry) (n : ℕ) → length (terms e n) ≡ n
 unfolding terms termAt
@@ -36,6 +36,8 @@ build-same f g (Sum items) h = ap sumOf (map-same items h)
     map-same : (js : List ℕ) → ((j : ℕ) → List·Memᴰ j js → f j ≡ g j) → map f js ≡ map g js
     map-same [] h = refl
     map-same (j ∷ js) h = ap₂ _∷_ (h j (List·Memᴰ·head refl)) (map-same js (λ i m. h i (List·Memᴰ·tail m)))
+build-same f g (Half s a) h = refl
+build-same f g (Aenc m k) h = ap₂ aenc (h m (List·Memᴰ·head refl)) (h k (List·Memᴰ·tail (List·Memᴰ·head refl)))
 
 pub termAt-build : (e : ℕ → Entry) (n : ℕ) → Downward e n → (i : ℕ) → i < n → termAt e i ≡ build (termAt e) (e i)
 unfolding termAt

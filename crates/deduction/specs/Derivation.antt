@@ -1,7 +1,8 @@
 -- What an intruder can derive (document 01: a finite ladder), over terms of any size.
 -- Defined: `Holds`, a term is held; `Derivation`, the finite derivations from a list of start terms, by the list of all terms held.
+use Prim.Native.Nat.{ℕ}
 use mathlib.Core.List.{List, _∷_, List·Memᴰ}
-use Rattle.deduction.specs.Term.{Term, pair, enc, sumOf, _≈_}
+use Rattle.deduction.specs.Term.{Side, opposite, Term, pair, enc, half, aenc, sumOf, _≈_}
 
 -- "A term is gained when it is the same as one at the start or one added so far"
 abbrev pub Holds : List Term → Term → Type 0
@@ -9,7 +10,7 @@ Holds g t = (u : Term) × List·Memᴰ u g × (u ≈ t)
 
 -- "A finite ladder starts from the terms of the messages before the cut. It has any finite number of rungs, possibly none. Each adds one
 -- term". `Derivation start g`: a derivation from `start` after which the terms held are `g`, the newest first. The rules are those of source
--- 001, Table 1, for pairs and symmetric encryption, with its sum of any known terms.
+-- 001, Table 1, for pairs and both sorts of encryption, with its sum of any known terms.
 pub data Derivation (start : List Term) : List Term → Type 0 where
   begin : Derivation start start
   -- "the left or right of a gained pair"
@@ -23,6 +24,10 @@ pub data Derivation (start : List Term) : List Term → Type 0 where
   encrypt : {g : List Term} {m k : Term} → Derivation start g → Holds g m → Holds g k → Derivation start (enc m k ∷ g)
   -- "the sum of finitely many gained terms, possibly none"
   sum : {g : List Term} (ts : List Term) → Derivation start g → ((t : Term) → List·Memᴰ t ts → Holds g t) → Derivation start (sumOf ts ∷ g)
+  -- "Rule 7, unlock, takes a lock and the opposite half of its key. Rule 8, lock, takes message and half". Source 001, Table 1, asymmetric:
+  -- {a}ᵖ under K and K⁻¹ give a; a and K give {a}ᵖ under K. No rule makes a half
+  adecrypt : {g : List Term} {m : Term} {s : Side} {a : ℕ} → Derivation start g → Holds g (aenc m (half s a)) → Holds g (half (opposite s) a) → Derivation start (m ∷ g)
+  aencrypt : {g : List Term} {m : Term} {s : Side} {a : ℕ} → Derivation start g → Holds g m → Holds g (half s a) → Derivation start (aenc m (half s a) ∷ g)
 
 -- some finite derivation from `start` holds t
 abbrev pub Derivable : List Term → Term → Type 0

@@ -6,7 +6,7 @@ use mathlib.Core.Path.{_≡_}
 use mathlib.Core.Bool.{true}
 use mathlib.Core.List.{List, [], _∷_}
 use Rattle.bitset.specs.Set.{member}
-use Rattle.deduction.specs.Term.{Term, pair, enc, _≈_}
+use Rattle.deduction.specs.Term.{Side, opposite, Term, pair, enc, half, aenc, _≈_}
 use Rattle.deduction.specs.Derivation.{Holds}
 use Rattle.deduction.specs.Standard.{sumOfSet}
 use Rattle.deduction.specs.Step.{Step, step, unused}
@@ -30,6 +30,10 @@ module _ (t : ℕ → Term) (n : ℕ) where
     encrypt : {h i j : ℕ} → h < n → Used g i → Used g j → t h ≈ enc (t i) (t j) → Right g (step h 5 i j 0)
     -- "rule 6: the gained head is the sum of the set"
     sum : {h u : ℕ} → h < n → ((j : ℕ) → member u j ≡ true → Used g j) → t h ≈ sumOfSet t n u → Right g (step h 6 unused unused u)
+    -- "for rule 7 the first source is a lock, the second the opposite half of its key, the gained head its message"
+    adecrypt : {h i j : ℕ} (s : Side) (a : ℕ) → h < n → Used g i → Used g j → t i ≈ aenc (t h) (half s a) → t j ≈ half (opposite s) a → Right g (step h 7 i j 0)
+    -- "for rule 8 the gained head is the lock of the first under the second", which is a half
+    aencrypt : {h i j : ℕ} (s : Side) (a : ℕ) → h < n → Used g i → Used g j → t h ≈ aenc (t i) (t j) → t j ≈ half s a → Right g (step h 8 i j 0)
 
   -- "It takes the rungs in order .. A right rung adds its gained head's term to the state. Any other rung is wrong and ends the replay".
   -- `Replays g ss a`: from the state g all steps of ss are right, and the state at the end is a

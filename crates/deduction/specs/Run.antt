@@ -5,8 +5,9 @@ use mathlib.Core.Bool.{Bool, true, false, cond, not, _&&_}
 use mathlib.Core.List.{List, [], _∷_, _++_}
 use lib.Dec.{eqb}
 use Rattle.bitset.specs.Set.{member}
-use Rattle.deduction.specs.Entry.{Entry, Zero, Atom, Pair, Enc, Sum}
-use Rattle.deduction.specs.Standard.{setAt, repAt}
+use Rattle.deduction.specs.Term.{opposite}
+use Rattle.deduction.specs.Entry.{Entry, Zero, Atom, Pair, Enc, Sum, Half, Aenc}
+use Rattle.deduction.specs.Standard.{halfKind, least, setAt, repAt}
 use Rattle.deduction.specs.Elimination.{Knowledge, reduce, learnAll, nothing}
 use Rattle.deduction.specs.Step.{Step, step, unused}
 pub use Rattle.deduction.specs.Course.{Verdict, derivable, underivable, exhausted}
@@ -23,19 +24,51 @@ number h r i = h * 65536 + r * 256 + i
 abbrev pub noStep : ℕ
 noStep = 16777216
 
--- The steps that follow, as numbers, for entries `e`, a known set g and a test whether an entry is a sum of known ones
-module _ (e : ℕ → Entry) (g : ℕ) where
+-- is this entry a half of kind k with the number a?
+unfoldable pub isHalf : ℕ → ℕ → Entry → Bool
+isHalf k a Zero = false
+isHalf k a (Atom b) = false
+isHalf k a (Pair l r) = false
+isHalf k a (Enc m x) = false
+isHalf k a (Sum items) = false
+isHalf k a (Half s b) = eqb (halfKind s) k && eqb b a
+isHalf k a (Aenc m x) = false
+
+-- the first of the n entries that is the opposite half of this one, and n where there is none
+unfoldable pub opener : (ℕ → Entry) → ℕ → Entry → ℕ
+opener e n Zero = n
+opener e n (Atom a) = n
+opener e n (Pair l r) = n
+opener e n (Enc m k) = n
+opener e n (Sum items) = n
+opener e n (Half s a) = least (λ j. isHalf (halfKind (opposite s)) a (e j)) n
+opener e n (Aenc m k) = n
+
+-- is this entry a half?
+unfoldable pub anyHalf : Entry → Bool
+anyHalf Zero = false
+anyHalf (Atom a) = false
+anyHalf (Pair l r) = false
+anyHalf (Enc m k) = false
+anyHalf (Sum items) = false
+anyHalf (Half s a) = true
+anyHalf (Aenc m k) = false
+
+-- The steps that follow, as numbers, for n entries `e`, a known set g and a test whether an entry is a sum of known ones
+module _ (e : ℕ → Entry) (n g : ℕ) where
   -- the head h by rule r from i, unless h is known
   unfoldable pub offer : ℕ → ℕ → ℕ → List ℕ
   offer h r i = cond (member g h) [] (number h r i ∷ [])
 
-  -- what a known entry gives: its parts, or its message where its key is known
+  -- what a known entry gives: its parts, or its message where its key is known, or for a lock the opposite half of its key
   unfoldable pub opened : ℕ → Entry → List ℕ
   opened i Zero = []
   opened i (Atom a) = []
   opened i (Pair l r) = offer (repAt e l) 1 i ++ offer (repAt e r) 2 i
   opened i (Enc m k) = cond (member g (repAt e k)) (offer (repAt e m) 3 i) []
   opened i (Sum items) = []
+  opened i (Half s a) = []
+  opened i (Aenc m k) = cond (member g (opener e n (e (repAt e k)))) (offer (repAt e m) 7 i) []
 
   -- by which rule an unknown entry is built from known parts
   unfoldable pub built : ℕ → Entry → List ℕ
@@ -44,6 +77,8 @@ module _ (e : ℕ → Entry) (g : ℕ) where
   built i (Pair l r) = cond (member g (repAt e l) && member g (repAt e r)) (number i 4 (repAt e l) ∷ []) []
   built i (Enc m k) = cond (member g (repAt e m) && member g (repAt e k)) (number i 5 (repAt e m) ∷ []) []
   built i (Sum items) = []
+  built i (Half s a) = []
+  built i (Aenc m k) = cond (anyHalf (e (repAt e k)) && (member g (repAt e m) && member g (repAt e k))) (number i 8 (repAt e m) ∷ []) []
 
   module _ (isSum : ℕ → Bool) where
     -- the steps that head i gives or is gained by
@@ -51,10 +86,10 @@ module _ (e : ℕ → Entry) (g : ℕ) where
     offers i =
         cond (eqb (repAt e i) i) (cond (member g i) (opened i (e i)) (built i (e i) ++ cond (isSum i) (number i 6 0 ∷ []) [])) []
 
-    -- of the first n entries
+    -- of the first m entries
     unfoldable pub allOffers : ℕ → List ℕ
     allOffers zero = []
-    allOffers (suc n) = allOffers n ++ offers n
+    allOffers (suc m) = allOffers m ++ offers m
 
 -- the least of a list, and d where it is empty
 unfoldable pub leastOf : ℕ → List ℕ → ℕ
@@ -67,29 +102,33 @@ isSumOf e k i = eqb (reduce (k .rows) (setAt e i) .remainder) 0
 
 -- the number of the next step, and noStep where nothing follows
 unfoldable pub nextNumber : (ℕ → Entry) → ℕ → Knowledge → ℕ
-nextNumber e n k = leastOf noStep (allOffers e (k .known) (isSumOf e k) n)
+nextNumber e n k = leastOf noStep (allOffers e n (k .known) (isSumOf e k) n)
 
--- the second entry number in a record: a pair's right, an encryption's key
+-- the second entry number in a record: a pair's right, the key of an encryption of either sort
 unfoldable pub secondPart : Entry → ℕ
 secondPart Zero = 0
 secondPart (Atom a) = 0
 secondPart (Pair l r) = r
 secondPart (Enc m k) = k
 secondPart (Sum items) = 0
+secondPart (Half s a) = 0
+secondPart (Aenc m k) = k
 
 -- the whole step of head h, rule r and first source i
-unfoldable pub expand : (ℕ → Entry) → Knowledge → ℕ → ℕ → ℕ → Step
-expand e k h zero i = step h zero i unused 0
-expand e k h (suc zero) i = step h 1 i unused 0
-expand e k h (suc (suc zero)) i = step h 2 i unused 0
-expand e k h (suc (suc (suc zero))) i = step h 3 i (repAt e (secondPart (e i))) 0
-expand e k h (suc (suc (suc (suc zero)))) i = step h 4 i (repAt e (secondPart (e h))) 0
-expand e k h (suc (suc (suc (suc (suc zero))))) i = step h 5 i (repAt e (secondPart (e h))) 0
-expand e k h (suc (suc (suc (suc (suc (suc r)))))) i = step h 6 unused unused (reduce (k .rows) (setAt e h) .used)
+unfoldable pub expand : (ℕ → Entry) → ℕ → Knowledge → ℕ → ℕ → ℕ → Step
+expand e n k h zero i = step h zero i unused 0
+expand e n k h (suc zero) i = step h 1 i unused 0
+expand e n k h (suc (suc zero)) i = step h 2 i unused 0
+expand e n k h (suc (suc (suc zero))) i = step h 3 i (repAt e (secondPart (e i))) 0
+expand e n k h (suc (suc (suc (suc zero)))) i = step h 4 i (repAt e (secondPart (e h))) 0
+expand e n k h (suc (suc (suc (suc (suc zero))))) i = step h 5 i (repAt e (secondPart (e h))) 0
+expand e n k h (suc (suc (suc (suc (suc (suc zero)))))) i = step h 6 unused unused (reduce (k .rows) (setAt e h) .used)
+expand e n k h (suc (suc (suc (suc (suc (suc (suc zero))))))) i = step h 7 i (opener e n (e (repAt e (secondPart (e i))))) 0
+expand e n k h (suc (suc (suc (suc (suc (suc (suc (suc r)))))))) i = step h 8 i (repAt e (secondPart (e h))) 0
 
 -- the step of a number
-unfoldable pub stepAt : (ℕ → Entry) → Knowledge → ℕ → Step
-stepAt e k x = expand e k (x / 65536) (x / 256 % 256) (x % 256)
+unfoldable pub stepAt : (ℕ → Entry) → ℕ → Knowledge → ℕ → Step
+stepAt e n k x = expand e n k (x / 65536) (x / 256 % 256) (x % 256)
 
 -- a verdict, the steps made, and the heads known at the end in the order learnt
 pub record Outcome : Type 0 where
@@ -106,7 +145,7 @@ reached e goal k = member (k .known) (repAt e goal)
 
 -- the step that comes next
 unfoldable pub nextStep : (ℕ → Entry) → ℕ → List ℕ → Step
-nextStep e n es = stepAt e (knowledge e es) (nextNumber e n (knowledge e es))
+nextStep e n es = stepAt e n (knowledge e es) (nextNumber e n (knowledge e es))
 
 -- does a step follow, with the goal not known?
 unfoldable pub goesOn : (ℕ → Entry) → ℕ → ℕ → List ℕ → Bool

@@ -8,14 +8,19 @@ use lib.Bits.{bitXor}
 use lib.Dec.{eqb, ltb}
 use lib.ListN.{getD}
 use Rattle.bitset.specs.Set.{member}
-use Rattle.deduction.specs.Term.{Term, 𝟎, _⊕_}
-use Rattle.deduction.specs.Entry.{Entry, Zero, Atom, Pair, Enc, Sum}
+use Rattle.deduction.specs.Term.{Side, private, public, Term, 𝟎, _⊕_}
+use Rattle.deduction.specs.Entry.{Entry, Zero, Atom, Pair, Enc, Sum, Half, Aenc}
 
--- what tells two terms of kinds 1 to 3 apart: the kind, and the atom's number or the sets of the two parts. Kind 0 for zero and sums
+-- what tells two terms of kinds 1 to 3 and 5 to 7 apart: the kind, and the number or the sets of the two parts. Kind 0 for zero and sums
 pub record Shape : Type 0 where
   pub kind : ℕ
   pub left : ℕ
   pub right : ℕ
+
+-- the kind of a half
+unfoldable pub halfKind : Side → ℕ
+halfKind private = 5
+halfKind public = 6
 
 unfoldable pub shape : (ℕ → ℕ) → Entry → Shape
 shape s Zero = record { kind = 0; left = 0; right = 0 }
@@ -23,6 +28,8 @@ shape s (Atom a) = record { kind = 1; left = a; right = 0 }
 shape s (Pair l r) = record { kind = 2; left = s l; right = s r }
 shape s (Enc m k) = record { kind = 3; left = s m; right = s k }
 shape s (Sum items) = record { kind = 0; left = 0; right = 0 }
+shape s (Half x a) = record { kind = halfKind x; left = a; right = 0 }
+shape s (Aenc m k) = record { kind = 7; left = s m; right = s k }
 
 unfoldable pub alike : Shape → Shape → Bool
 alike x y = eqb (x .kind) (y .kind) && (eqb (x .left) (y .left) && eqb (x .right) (y .right))
@@ -37,7 +44,7 @@ unfoldable pub xorAll : (ℕ → ℕ) → List ℕ → ℕ
 xorAll s [] = 0
 xorAll s (i ∷ items) = bitXor (s i) (xorAll s items)
 
--- the set of a term of kinds 1 to 3 at entry n: that of the first earlier entry built alike, or else n alone
+-- the set of a term of these kinds at entry n: that of the first earlier entry built alike, or else n alone
 unfoldable pub firstAlike : (ℕ → ℕ) → (ℕ → Entry) → ℕ → ℕ
 firstAlike s e n = least (λ j. alike (shape s (e j)) (shape s (e n))) n
 
@@ -51,6 +58,8 @@ buildSet s e n (Atom a) = standardSet s e n
 buildSet s e n (Pair l r) = standardSet s e n
 buildSet s e n (Enc m k) = standardSet s e n
 buildSet s e n (Sum items) = xorAll s items
+buildSet s e n (Half x a) = standardSet s e n
+buildSet s e n (Aenc m k) = standardSet s e n
 
 -- the sets of the first n entries, each from those before it
 unfoldable pub sets : (ℕ → Entry) → ℕ → List ℕ
@@ -65,7 +74,7 @@ setAt e i = buildSet (λ j. getD (sets e i) j 0) e i (e i)
 unfoldable pub repAt : (ℕ → Entry) → ℕ → ℕ
 repAt e i = least (λ j. eqb (setAt e j) (setAt e i)) i
 
--- "A standard entry is a head of kind 1, 2 or 3"
+-- "A standard entry is a head of kind 1, 2 or 3"; of kinds 5, 6 and 7, "All three are standard"
 unfoldable pub standard : (ℕ → Entry) → ℕ → Bool
 standard e i = eqb (repAt e i) i && not (eqb (shape (setAt e) (e i) .kind) 0)
 

@@ -7,7 +7,7 @@ use mathlib.Core.Bool.{true}
 use mathlib.Core.Logic.{_⊎_}
 use mathlib.Core.List.{List, _∷_, _++_, map, List·Memᴰ}
 use Rattle.bitset.specs.Set.{member}
-use Rattle.deduction.specs.Term.{Term, pair, enc, sumOf, _≈_}
+use Rattle.deduction.specs.Term.{Side, opposite, Term, pair, enc, half, aenc, sumOf, _≈_}
 use Rattle.deduction.specs.Standard.{sumOfSet}
 
 -- "gained head, rule, first source, second source .. and a .. set of summed sources"
@@ -44,7 +44,8 @@ module _ (t : ℕ → Term) (n : ℕ) where
     Drawn j = (before after : List ℕ) × (es ≡ before ++ (j ∷ after)) × ((js : List ℕ) → ((i : ℕ) → List·Memᴰ i js → List·Memᴰ i before) → ¬ (t j ≈ sumOf (map t js)))
 
     -- "Rule numbers: 1 split left, 2 split right, 3 open (a seal and its key), 4 join, 5 seal, 6 sum". "Sources are heads." "In open the first
-    -- source is the seal; in join and seal, the left or the message"
+    -- source is the seal; in join and seal, the left or the message". Document 02, E6: "Rule 7, unlock, takes a lock and the opposite half of its
+    -- key. Rule 8, lock, takes message and half. Sources stand in that order and the set is zero. Both come after sum in the rule order"
     pub data Follows : Step → Type 0 where
       first : {h i : ℕ} (b : Term) → Open h → Known i → t i ≈ pair (t h) b → Follows (step h 1 i unused 0)
       second : {h i : ℕ} (a : Term) → Open h → Known i → t i ≈ pair a (t h) → Follows (step h 2 i unused 0)
@@ -52,6 +53,8 @@ module _ (t : ℕ → Term) (n : ℕ) where
       join : {h i j : ℕ} → Open h → Known i → Known j → t h ≈ pair (t i) (t j) → Follows (step h 4 i j 0)
       encrypt : {h i j : ℕ} → Open h → Known i → Known j → t h ≈ enc (t i) (t j) → Follows (step h 5 i j 0)
       sum : {h : ℕ} (u : ℕ) → Open h → ((j : ℕ) → member u j ≡ true → Drawn j) → t h ≈ sumOfSet t n u → Follows (step h 6 unused unused u)
+      adecrypt : {h i j : ℕ} (s : Side) (a : ℕ) → Open h → Known i → Known j → t i ≈ aenc (t h) (half s a) → t j ≈ half (opposite s) a → Follows (step h 7 i j 0)
+      aencrypt : {h i j : ℕ} (s : Side) (a : ℕ) → Open h → Known i → Known j → t h ≈ aenc (t i) (t j) → t j ≈ half s a → Follows (step h 8 i j 0)
 
 -- "the lowest head .. The lowest rule number .. then the lowest first source"
 abbrev pub Before : Step → Step → Type 0

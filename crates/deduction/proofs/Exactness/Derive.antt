@@ -7,8 +7,8 @@ use mathlib.Core.Logic.{⊎-elim}
 use mathlib.Core.List.{List, [], _∷_, map, List·Memᴰ, List·Memᴰ·head, List·Memᴰ·tail, List·Memᴰ·cases-cons, List·Memᴰ·not-nil, List·Memᴰ·eq-of-singleton, Memᴰ·map, Memᴰ·of-map}
 use Prim.Native.Nat.{ℕ, zero, suc}
 use Rattle.bitset.specs.Set.{member}
-use Rattle.deduction.specs.Term.{Term, _⊕_, sumOf, _≈_, unit, in-sum, same, flip, then}
-use Rattle.deduction.specs.Derivation.{Holds, Derivation, Derivable, begin, first, second, decrypt, join, encrypt, sum}
+use Rattle.deduction.specs.Term.{Term, _⊕_, sumOf, _≈_, unit, in-aenc, in-sum, same, flip, then}
+use Rattle.deduction.specs.Derivation.{Holds, Derivation, Derivable, begin, first, second, decrypt, join, encrypt, sum, adecrypt, aencrypt}
 use Rattle.deduction.specs.Standard.{sumOfSet}
 use Rattle.deduction.proofs.Exactness.Within.{Reach}
 
@@ -31,6 +31,8 @@ start-among (decrypt d h k) u m = List·Memᴰ·tail (start-among d u m)
 start-among (join d h k) u m = List·Memᴰ·tail (start-among d u m)
 start-among (encrypt d h k) u m = List·Memᴰ·tail (start-among d u m)
 start-among (sum ts d h) u m = List·Memᴰ·tail (start-among d u m)
+start-among (adecrypt d h k) u m = List·Memᴰ·tail (start-among d u m)
+start-among (aencrypt d h k) u m = List·Memᴰ·tail (start-among d u m)
 
 -- two derivations joined
 Joined : List Term → List Term → List Term → Type 0
@@ -50,6 +52,8 @@ joined d (decrypt c p q) = let (k, b, f, f′) = joined d c in longer (decrypt b
 joined d (join c p q) = let (k, b, f, f′) = joined d c in longer (join b (holds-among f′ _ p) (holds-among f′ _ q)) f f′
 joined d (encrypt c p q) = let (k, b, f, f′) = joined d c in longer (encrypt b (holds-among f′ _ p) (holds-among f′ _ q)) f f′
 joined d (sum ts c p) = let (k, b, f, f′) = joined d c in longer (sum ts b (λ u m. holds-among f′ u (p u m))) f f′
+joined d (adecrypt c p q) = let (k, b, f, f′) = joined d c in longer (adecrypt b (holds-among f′ _ p) (holds-among f′ _ q)) f f′
+joined d (aencrypt c p q) = let (k, b, f, f′) = joined d c in longer (aencrypt b (holds-among f′ _ p) (holds-among f′ _ q)) f f′
 
 -- two terms that can be derived are held together
 pub derive-both : {start : List Term} {a b : Term} → Derivable start a → Derivable start b → (g : List Term) × Derivation start g × Holds g a × Holds g b
@@ -116,3 +120,9 @@ reach-derivable t n start i (Reach.encrypt {j = j} {k = k} hi hj hk r s e) =
 reach-derivable t n start i (Reach.sum js hi below r e) =
     let (g, d, p) = derive-all (map t js) (λ u m. let (j, q, s) = Memᴰ·of-map t js m in subst (Derivable (map t start)) s (reach-derivable t n start j (r j q))) in
     derived (sum (map t js) d p) (flip e)
+reach-derivable t n start j (Reach.adecrypt {i = i} {k = k} s a hi hj hk r c e q) =
+    let (g, d, p, z) = derive-both (reach-derivable t n start i r) (reach-derivable t n start k c) in
+    derived (adecrypt d (held-same p e) (held-same z q)) same
+reach-derivable t n start i (Reach.aencrypt {j = j} {k = k} s a hi hj hk r c e q) =
+    let (g, d, p, z) = derive-both (reach-derivable t n start j r) (reach-derivable t n start k c) in
+    derived (aencrypt d p (held-same z q)) (then (in-aenc same (flip q)) (flip e))

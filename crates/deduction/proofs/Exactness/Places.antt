@@ -1,7 +1,8 @@
--- The places on a sheet: those of its atoms, pairs and encryptions.
+-- The places on a sheet: those of its entries other than zero and sums.
 -- Defined: `PlaceOf t d p`, the entry d is no zero and no sum, and has the place p; `OnSheet t e n p`, one of the first n entries has it.
--- Shown: being on the sheet is decidable, and the code of each entry's term has only such places. Assumes nothing.
-use mathlib.Core.Path.{_≡_, refl, sym, ap, _∙_, subst}
+-- Shown: being on the sheet is decidable, and the code of each entry's term has only such places; what an entry with a given place is. Assumes
+-- nothing.
+use mathlib.Core.Path.{_≡_, refl, sym, ap, ap₂, _∙_, subst}
 use mathlib.Core.Bool.{true}
 use mathlib.Core.Logic.{⊎-elim, by-cases}
 use mathlib.Core.List.{List, [], _∷_, map, List·Memᴰ, List·Memᴰ·head, List·Memᴰ·tail, Memᴰ·of-map}
@@ -9,9 +10,11 @@ use Prim.Native.Nat.{ℕ, zero, suc, _<_}
 use native.Mathlib.Decide.{ℕ-discrete}
 use native.Mathlib.Omega.{arith}
 use Rattle.bitset.specs.Set.{member}
-use Rattle.deduction.specs.Term.{Term, pair, enc, sumOf}
-use Rattle.deduction.specs.Entry.{Entry, Zero, Atom, Pair, Enc, Sum, build, parts, Downward}
-use Rattle.deduction.proofs.Coding.{bit, bit-only, place, place-same, code, code-atom, code-pair, code-enc, zero-none, sum-either}
+use Rattle.deduction.specs.Term.{Side, Term, sumOf}
+use Rattle.deduction.specs.Entry.{Entry, Zero, Atom, Pair, Enc, Sum, Half, Aenc, build, parts, Downward}
+use Rattle.deduction.specs.Standard.{shape}
+use Rattle.deduction.proofs.Coding.{bit, bit-only, bit-same, place, place-same, halfPlace, side-same, side-range, code, code-atom, code-pair, code-enc, code-half, code-aenc, zero-none, sum-either}
+use Rattle.deduction.proofs.Forms.{Form, pairs, encs, aencs, form, formPlace, formEntry, form-build, form-listed, form-same, form-positive, form-not-half}
 
 abbrev pub PlaceOf : (ℕ → Term) → Entry → ℕ → Type 0
 PlaceOf t Zero p = ⊥
@@ -19,6 +22,8 @@ PlaceOf t (Atom a) p = place 0 a 0 ≡ p
 PlaceOf t (Pair l r) p = place 1 (code (t l)) (code (t r)) ≡ p
 PlaceOf t (Enc m k) p = place 2 (code (t m)) (code (t k)) ≡ p
 PlaceOf t (Sum items) p = ⊥
+PlaceOf t (Half s a) p = halfPlace s a ≡ p
+PlaceOf t (Aenc m k) p = place 6 (code (t m)) (code (t k)) ≡ p
 
 abbrev pub OnSheet : (ℕ → Term) → (ℕ → Entry) → ℕ → ℕ → Type 0
 OnSheet t e n p = (i : ℕ) × (i < n) × PlaceOf t (e i) p
@@ -31,6 +36,8 @@ place-code t (Atom a) p h = code-atom a ∙ ap bit h
 place-code t (Pair l r) p h = code-pair (t l) (t r) ∙ ap bit h
 place-code t (Enc m k) p h = code-enc (t m) (t k) ∙ ap bit h
 place-code t (Sum items) p h = absurd h
+place-code t (Half s a) p h = code-half s a ∙ ap bit h
+place-code t (Aenc m k) p h = code-aenc (t m) (t k) ∙ ap bit h
 
 placeOf-decidable : (t : ℕ → Term) (d : Entry) (p : ℕ) → Dec (PlaceOf t d p)
 placeOf-decidable t Zero p = no (λ h. h)
@@ -38,6 +45,8 @@ placeOf-decidable t (Atom a) p = ℕ-discrete (place 0 a 0) p
 placeOf-decidable t (Pair l r) p = ℕ-discrete (place 1 (code (t l)) (code (t r))) p
 placeOf-decidable t (Enc m k) p = ℕ-discrete (place 2 (code (t m)) (code (t k))) p
 placeOf-decidable t (Sum items) p = no (λ h. h)
+placeOf-decidable t (Half s a) p = ℕ-discrete (halfPlace s a) p
+placeOf-decidable t (Aenc m k) p = ℕ-discrete (place 6 (code (t m)) (code (t k))) p
 
 pub onSheet-decidable : (t : ℕ → Term) (e : ℕ → Entry) (n p : ℕ) → Dec (OnSheet t e n p)
 onSheet-decidable t e zero p = no (λ h. absurd (omega (arith, h .1)))
@@ -80,36 +89,55 @@ module _ (t : ℕ → Term) (e : ℕ → Entry) (n : ℕ) (down : Downward e n) 
           item v = let w = Memᴰ·of-map t items (v .1) in
               let lower : w .0 < i = down i (w .0) h (subst (λ (x : Entry). List·Memᴰ (w .0) (parts x)) (sym q) (w .1)) in
               below (w .0) (omega arith) (omega arith) p (ap (λ (x : Term). member (code x) p) (w .2) ∙ v .2)
+      go below (Half s a) q r = here (Half s a) q (only _ _ (code-half s a) r)
+      go below (Aenc x y) q r = here (Aenc x y) q (only _ _ (code-aenc (t x) (t y)) r)
 
   pub entry-places : (i : ℕ) → i < n → (p : ℕ) → member (code (t i)) p ≡ true → OnSheet t e n p
   entry-places i h p m = places-below (suc i) i (omega arith) h p m
 
-  -- an entry with a pair's place is a pair, and its parts have the codes of the place
-  pub pair-at : (i x y : ℕ) → i < n → PlaceOf t (e i) (place 1 x y)
-      → (l r : ℕ) × (l < n) × (r < n) × (code (t l) ≡ x) × (code (t r) ≡ y) × (t i ≡ pair (t l) (t r))
-  unfolding build parts
-  pair-at i x y h = go (e i) refl
-    where
-      go : (d : Entry) → e i ≡ d → PlaceOf t d (place 1 x y) → (l r : ℕ) × (l < n) × (r < n) × (code (t l) ≡ x) × (code (t r) ≡ y) × (t i ≡ pair (t l) (t r))
-      go Zero q s = absurd s
-      go (Atom a) q s = absurd (omega (arith, place-same _ _ _ _ _ _ s .0))
-      go (Pair l r) q s = let p = place-same _ _ _ _ _ _ s in
-          let lower : (j : ℕ) → List·Memᴰ j (l ∷ r ∷ []) → j < i = λ j m. down i j h (subst (λ (d : Entry). List·Memᴰ j (parts d)) (sym q) m) in
-          (l, r, omega (arith, lower l (List·Memᴰ·head refl)), omega (arith, lower r (List·Memᴰ·tail (List·Memᴰ·head refl))), p .1, p .2, built i h ∙ ap (build t) q)
-      go (Enc m k) q s = absurd (omega (arith, place-same _ _ _ _ _ _ s .0))
-      go (Sum items) q s = absurd s
+  -- an entry with the place of a form has that form, and its parts have the codes of the place
+  abbrev pub PartsAt : Form → ℕ → ℕ → ℕ → Type 0
+  PartsAt f i x y = (l r : ℕ) × (l < n) × (r < n) × (code (t l) ≡ x) × (code (t r) ≡ y) × (e i ≡ formEntry f l r)
 
-  -- an entry with an encryption's place is an encryption, and its parts have the codes of the place
-  pub enc-at : (i x y : ℕ) → i < n → PlaceOf t (e i) (place 2 x y)
-      → (m k : ℕ) × (m < n) × (k < n) × (code (t m) ≡ x) × (code (t k) ≡ y) × (t i ≡ enc (t m) (t k))
-  unfolding build parts
-  enc-at i x y h = go (e i) refl
+  pub parts-at : (f : Form) (i x y : ℕ) → i < n → PlaceOf t (e i) (place (formPlace f) x y) → PartsAt f i x y
+  parts-at f i x y h = go (e i) refl
     where
-      go : (d : Entry) → e i ≡ d → PlaceOf t d (place 2 x y) → (m k : ℕ) × (m < n) × (k < n) × (code (t m) ≡ x) × (code (t k) ≡ y) × (t i ≡ enc (t m) (t k))
+      two : (g : Form) (l r : ℕ) → e i ≡ formEntry g l r → place (formPlace g) (code (t l)) (code (t r)) ≡ place (formPlace f) x y → PartsAt f i x y
+      two g l r q s = let p = place-same _ _ _ _ _ _ s in
+          let lower : (j : ℕ) → List·Memᴰ j (l ∷ r ∷ []) → j < i = λ j m. down i j h (subst (λ (js : List ℕ). List·Memᴰ j js) (sym (ap parts q ∙ form-listed g l r)) m) in
+          (l, r, omega (arith, lower l (List·Memᴰ·head refl)), omega (arith, lower r (List·Memᴰ·tail (List·Memᴰ·head refl))), p .1, p .2, q ∙ ap (λ (k : Form). formEntry k l r) (form-same g f (p .0)))
+
+      go : (d : Entry) → e i ≡ d → PlaceOf t d (place (formPlace f) x y) → PartsAt f i x y
       go Zero q s = absurd s
-      go (Atom a) q s = absurd (omega (arith, place-same _ _ _ _ _ _ s .0))
-      go (Pair l r) q s = absurd (omega (arith, place-same _ _ _ _ _ _ s .0))
-      go (Enc m k) q s = let p = place-same _ _ _ _ _ _ s in
-          let lower : (j : ℕ) → List·Memᴰ j (m ∷ k ∷ []) → j < i = λ j r. down i j h (subst (λ (d : Entry). List·Memᴰ j (parts d)) (sym q) r) in
-          (m, k, omega (arith, lower m (List·Memᴰ·head refl)), omega (arith, lower k (List·Memᴰ·tail (List·Memᴰ·head refl))), p .1, p .2, built i h ∙ ap (build t) q)
+      go (Atom a) q s = absurd (omega (arith, place-same _ _ _ _ _ _ s .0, form-positive f))
+      go (Pair l r) q s = two pairs l r q s
+      go (Enc m k) q s = two encs m k q s
       go (Sum items) q s = absurd s
+      go (Half z a) q s = absurd (form-not-half f z (place-same _ _ _ _ _ _ s .0))
+      go (Aenc m k) q s = two aencs m k q s
+
+-- the term of an entry with two parts
+pub form-term : (t : ℕ → Term) (e : ℕ → Entry) (n : ℕ) (built : (i : ℕ) → i < n → t i ≡ build t (e i)) (f : Form) (i l r : ℕ) → i < n
+    → e i ≡ formEntry f l r → t i ≡ form f (t l) (t r)
+form-term t e n built f i l r h q = built i h ∙ ap (build t) q ∙ form-build t f l r
+
+-- an entry with the place of a half is that half
+pub half-at : (t : ℕ → Term) (s : Side) (a : ℕ) (d : Entry) → PlaceOf t d (halfPlace s a) → d ≡ Half s a
+half-at t s a Zero q = absurd q
+half-at t s a (Atom b) q = absurd (omega (arith, place-same _ _ _ _ _ _ q .0, side-range s))
+half-at t s a (Pair l r) q = absurd (form-not-half pairs s (sym (place-same _ _ _ _ _ _ q .0)))
+half-at t s a (Enc m k) q = absurd (form-not-half encs s (sym (place-same _ _ _ _ _ _ q .0)))
+half-at t s a (Sum items) q = absurd q
+half-at t s a (Half z b) q = let p = place-same _ _ _ _ _ _ q in ap₂ Half (side-same z s (p .0)) (p .1)
+half-at t s a (Aenc m k) q = absurd (form-not-half aencs s (sym (place-same _ _ _ _ _ _ q .0)))
+
+-- an entry that is no zero and no sum, and whose code is one place, has that place
+pub plain-place : (t : ℕ → Term) (u : ℕ → ℕ) (d : Entry) (p : ℕ) → ¬ (shape u d .kind ≡ 0) → code (build t d) ≡ bit p → PlaceOf t d p
+unfolding build shape
+plain-place t u Zero p z c = absurd (z refl)
+plain-place t u (Atom a) p z c = bit-same _ p (sym (code-atom a) ∙ c)
+plain-place t u (Pair l r) p z c = bit-same _ p (sym (code-pair (t l) (t r)) ∙ c)
+plain-place t u (Enc m k) p z c = bit-same _ p (sym (code-enc (t m) (t k)) ∙ c)
+plain-place t u (Sum items) p z c = absurd (z refl)
+plain-place t u (Half s a) p z c = bit-same _ p (sym (code-half s a) ∙ c)
+plain-place t u (Aenc m k) p z c = bit-same _ p (sym (code-aenc (t m) (t k)) ∙ c)

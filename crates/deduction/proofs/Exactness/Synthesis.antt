@@ -1,5 +1,5 @@
--- What can be put together from a set G of entries, closed under the six rules within the sheet.
--- Defined: `Synth`, the codes made from G by sums, pairs and encryptions, and from atoms that aren't on the sheet; `Sums`, those made by
+-- What can be put together from a set G of entries, closed under the eight rules within the sheet.
+-- Defined: `Synth`, the codes made from G by sums, pairs and encryptions of both sorts, and from atoms that aren't on the sheet, but no halves; `Sums`, those made by
 -- sums alone; `Split`, a code as a sum of entries of G and of places that aren't on the sheet.
 -- Shown: every code of `Synth` splits so; one with places on the sheet alone is a sum of entries of G, and an entry whose code is one of them is in G. Assumes
 -- nothing.
@@ -11,12 +11,13 @@ use Prim.Native.Nat.{ℕ, _<_}
 use lib.Bits.{bitXor, xor-comm, xor-zero-l, xor-zero-r}
 use Rattle.bitset.specs.Set.{member}
 use Rattle.bitset.proofs.Laws.Member.{no-members, sum-assoc}
-use Rattle.deduction.specs.Term.{Term, 𝟎, sumOf}
+use Rattle.deduction.specs.Term.{Side, Term, 𝟎, sumOf, _≈_}
 use Rattle.deduction.specs.Entry.{Entry, build, Downward}
 use Rattle.deduction.proofs.Exactness.Within.{Closed}
-use Rattle.deduction.proofs.Coding.{bit, bit-own, bit-only, empty-none, member-either, member-one, place, code, code-zero, code-sum}
+use Rattle.deduction.proofs.Coding.{bit, bit-own, bit-only, empty-none, member-either, member-one, place, halfPlace, code, code-zero, code-half, code-sum}
 use Rattle.deduction.proofs.Pieces.{by-code}
-use Rattle.deduction.proofs.Exactness.Places.{PlaceOf, OnSheet, place-code, onSheet-decidable, member-some, entry-places, pair-at, enc-at}
+use Rattle.deduction.proofs.Forms.{Form, pairs, encs, aencs, form, formPlace}
+use Rattle.deduction.proofs.Exactness.Places.{PlaceOf, OnSheet, place-code, onSheet-decidable, member-some, entry-places, parts-at, form-term}
 
 pub data Synth (t : ℕ → Term) (e : ℕ → Entry) (n : ℕ) (G : ℕ → Type 0) : ℕ → Type 0 where
   entry : (i : ℕ) → i < n → G i → Synth t e n G (code (t i))
@@ -26,12 +27,14 @@ pub data Synth (t : ℕ → Term) (e : ℕ → Entry) (n : ℕ) (G : ℕ → Typ
   sum : {v w : ℕ} → Synth t e n G v → Synth t e n G w → Synth t e n G (bitXor v w)
   join : {x y : ℕ} → Synth t e n G x → Synth t e n G y → Synth t e n G (bit (place 1 x y))
   encrypt : {x y : ℕ} → Synth t e n G x → Synth t e n G y → Synth t e n G (bit (place 2 x y))
+  aencrypt : {x : ℕ} (s : Side) (a : ℕ) → Synth t e n G x → Synth t e n G (bit (halfPlace s a)) → Synth t e n G (bit (place 6 x (bit (halfPlace s a))))
 
 -- the places of what is made off the sheet
 pub data Made (t : ℕ → Term) (e : ℕ → Entry) (n : ℕ) (G : ℕ → Type 0) : ℕ → Type 0 where
   own : (a : ℕ) → Made t e n G (place 0 a 0)
   join : {x y : ℕ} → Synth t e n G x → Synth t e n G y → Made t e n G (place 1 x y)
   encrypt : {x y : ℕ} → Synth t e n G x → Synth t e n G y → Made t e n G (place 2 x y)
+  aencrypt : {x : ℕ} (s : Side) (a : ℕ) → Synth t e n G x → Synth t e n G (bit (halfPlace s a)) → Made t e n G (place 6 x (bit (halfPlace s a)))
 
 -- the sums of entries of G
 abbrev pub Sums : (ℕ → Term) → ℕ → (ℕ → Type 0) → ℕ → Type 0
@@ -128,33 +131,26 @@ module _ (t : ℕ → Term) (e : ℕ → Entry) (n : ℕ) (down : Downward e n) 
   split-entry : (i p : ℕ) → i < n → PlaceOf t (e i) p → G i → Split t e n G (bit p)
   split-entry i p h s g = subst (Split t e n G) (ap code (built i h) ∙ place-code t (e i) p s) (split-on t e n G (sums-entry t e n G i h g))
 
-  -- a pair of two codes that split: it is an entry, then in G, or off the sheet
-  split-join : {x y : ℕ} → Made t e n G (place 1 x y) → Split t e n G x → Split t e n G y → Split t e n G (bit (place 1 x y))
-  split-join {x} {y} made sx sy = by-cases (onSheet-decidable t e n (place 1 x y)) found (λ h. split-off t e n G (place 1 x y) h made)
+  -- a form of two codes that split: it is an entry, then in G by the rule that builds the form, or off the sheet
+  split-two : (f : Form) {x y : ℕ} → ((i l r : ℕ) → i < n → l < n → r < n → G l → G r → code (t r) ≡ y → t i ≈ form f (t l) (t r) → G i)
+      → Made t e n G (place (formPlace f) x y) → Split t e n G x → Split t e n G y → Split t e n G (bit (place (formPlace f) x y))
+  split-two f {x} {y} rule made sx sy = by-cases (onSheet-decidable t e n (place (formPlace f) x y)) found (λ h. split-off t e n G (place (formPlace f) x y) h made)
     where
-      found : OnSheet t e n (place 1 x y) → Split t e n G (bit (place 1 x y))
-      found (i, h, s) = let (l, r, hl, hr, cl, cr, ti) = pair-at t e n down built i x y h s in
-          split-entry i (place 1 x y) h s
-          (closed .join i l r h hl hr (split-gained l hl (subst (Split t e n G) (sym cl) sx)) (split-gained r hr (subst (Split t e n G) (sym cr) sy))
-          (by-code (ap code ti)))
-
-  -- the same of an encryption
-  split-encrypt : {x y : ℕ} → Made t e n G (place 2 x y) → Split t e n G x → Split t e n G y → Split t e n G (bit (place 2 x y))
-  split-encrypt {x} {y} made sx sy = by-cases (onSheet-decidable t e n (place 2 x y)) found (λ h. split-off t e n G (place 2 x y) h made)
-    where
-      found : OnSheet t e n (place 2 x y) → Split t e n G (bit (place 2 x y))
-      found (i, h, s) = let (m, k, hm, hk, cm, ck, ti) = enc-at t e n down built i x y h s in
-          split-entry i (place 2 x y) h s
-          (closed .encrypt i m k h hm hk (split-gained m hm (subst (Split t e n G) (sym cm) sx)) (split-gained k hk (subst (Split t e n G) (sym ck) sy))
-          (by-code (ap code ti)))
+      found : OnSheet t e n (place (formPlace f) x y) → Split t e n G (bit (place (formPlace f) x y))
+      found (i, h, s) = let (l, r, hl, hr, cl, cr, ei) = parts-at t e n down built f i x y h s in
+          split-entry i (place (formPlace f) x y) h s
+          (rule i l r h hl hr (split-gained l hl (subst (Split t e n G) (sym cl) sx)) (split-gained r hr (subst (Split t e n G) (sym cr) sy)) cr
+          (by-code (ap code (form-term t e n built f i l r h ei))))
 
   synth-split : {v : ℕ} → Synth t e n G v → Split t e n G v
   synth-split (entry i h g) = split-on t e n G (sums-entry t e n G i h g)
   synth-split (own a h) = split-off t e n G (place 0 a 0) h (own a)
   synth-split none = split-on t e n G (sums-none t e n G)
   synth-split (sum x y) = split-sum t e n G (synth-split x) (synth-split y)
-  synth-split (join x y) = split-join (join x y) (synth-split x) (synth-split y)
-  synth-split (encrypt x y) = split-encrypt (encrypt x y) (synth-split x) (synth-split y)
+  synth-split (join x y) = split-two pairs (λ i l r hi hl hr gl gr c q. closed .join i l r hi hl hr gl gr q) (join x y) (synth-split x) (synth-split y)
+  synth-split (encrypt x y) = split-two encs (λ i l r hi hl hr gl gr c q. closed .encrypt i l r hi hl hr gl gr q) (encrypt x y) (synth-split x) (synth-split y)
+  synth-split (aencrypt s a x y) =
+      split-two aencs (λ i l r hi hl hr gl gr c q. closed .aencrypt i l r s a hi hl hr gl gr q (by-code (c ∙ sym (code-half s a)))) (aencrypt s a x y) (synth-split x) (synth-split y)
 
   -- an entry whose code can be put together is in G
   pub synth-gained : (i : ℕ) → i < n → Synth t e n G (code (t i)) → G i

@@ -13,7 +13,7 @@ use Rattle.deduction.specs.Term.{Term, atom, pair, enc, _≈_, same}
 use Rattle.deduction.specs.Entry.{Entry, Zero, Atom, build, termAt, parts, Downward}
 use Rattle.deduction.specs.Derivation.{Holds, Derivation, Derivable, begin, join, encrypt}
 use Rattle.deduction.proofs.Coding.{bit-own, bit-other, place, place-same, code, code-atom}
-use Rattle.deduction.proofs.Distinct.{atom-not-pair, atom-not-enc}
+use Rattle.deduction.proofs.Distinct.{kind, kinds-apart}
 use Rattle.deduction.proofs.Terms.{termAt-build}
 use Rattle.deduction.proofs.Exactness.{kept-underivable}
 use Rattle.deduction.proofs.Exactness.Invariant.{Kept}
@@ -48,9 +48,17 @@ detour = encrypt (join begin here here) (twin, List·Memᴰ·head refl, same) (t
     here : Holds (termAt sheet 0 ∷ []) (termAt sheet 0)
     here = (termAt sheet 0, List·Memᴰ·head refl, same)
 
+-- an atom is neither of them
+neither : (a : ℕ) (u : Term) → u ≡ atom a → (¬ (u ≈ twin)) × (¬ (u ≈ wrapped))
+unfolding kind
+neither a u p = (
+  λ q. omega (arith, kinds-apart (atom a) twin (λ z. omega arith) (λ z. omega arith) (subst (λ (v : Term). v ≈ twin) p q)),
+  λ q. omega (arith, kinds-apart (atom a) wrapped (λ z. omega arith) (λ z. omega arith) (subst (λ (v : Term). v ≈ wrapped) p q)),
+)
+
 pub off-sheet : (i : ℕ) → i < 2 → (¬ (termAt sheet i ≈ twin)) × (¬ (termAt sheet i ≈ wrapped))
-off-sheet zero h = (λ q. atom-not-pair (subst (λ (u : Term). u ≈ twin) term-0 q), λ q. atom-not-enc (subst (λ (u : Term). u ≈ wrapped) term-0 q))
-off-sheet (suc zero) h = (λ q. atom-not-pair (subst (λ (u : Term). u ≈ twin) term-1 q), λ q. atom-not-enc (subst (λ (u : Term). u ≈ wrapped) term-1 q))
+off-sheet zero h = neither 1 (termAt sheet 0) term-0
+off-sheet (suc zero) h = neither 2 (termAt sheet 1) term-1
 off-sheet (suc (suc i)) h = absurd (omega arith)
 
 abbrev Lacks : ℕ → Type 0

@@ -1,17 +1,18 @@
--- Entries of kinds 1 to 3, by the first entry of the same shape.
--- Defined: `shapeAt`, `first`, `Plain`, an entry of kind 1 to 3.
--- Shown: the first entry of an entry's shape has that shape, and entries of one shape have one first; the set of an entry of kind 1 to 3
+-- Entries of kinds 1 to 3 and 5 to 7, by the first entry of the same shape.
+-- Defined: `shapeAt`, `first`, `Plain`, an entry of one of these kinds.
+-- Shown: the first entry of an entry's shape has that shape, and entries of one shape have one first; the set of a plain entry
 -- is that first entry alone. Assumes nothing.
 use mathlib.Core.Path.{_≡_, refl, sym, ap, ap₂, _∙_}
 use mathlib.Core.Bool.{Bool, true, false, true≢false, false≢true, cond, _&&_}
-use mathlib.Core.Logic.{by-cases}
+use mathlib.Core.Logic.{_⊎_, inl, inr, ⊎-elim, by-cases}
 use Prim.Native.Nat.{ℕ, _^_, _≤_, _<_}
 use native.Mathlib.Decide.{decLt}
 use native.Mathlib.Omega.{arith}
 use lib.Dec.{eqb, ltb}
 use borrow.Author.Tests.{eqb-true, eq-eqb, ltb-false, le-ltb}
-use Rattle.deduction.specs.Entry.{Entry, Zero, Atom, Pair, Enc, Sum, Downward}
-use Rattle.deduction.specs.Standard.{Shape, shape, alike, firstAlike, standardSet, buildSet, setAt}
+use Rattle.deduction.specs.Term.{Side, private, public}
+use Rattle.deduction.specs.Entry.{Entry, Zero, Atom, Pair, Enc, Sum, Half, Aenc, Downward}
+use Rattle.deduction.specs.Standard.{Shape, halfKind, shape, alike, firstAlike, standardSet, buildSet, setAt}
 use Rattle.deduction.proofs.Standard.Least.{least-le, least-found, least-before}
 use Rattle.deduction.proofs.Standard.Sets.{setAt-build}
 
@@ -41,18 +42,18 @@ shapeAt e i = shape (setAt e) (e i)
 abbrev pub first : (ℕ → Entry) → ℕ → ℕ
 first e i = firstAlike (setAt e) e i
 
--- entry i is of kind 1, 2 or 3
+-- entry i is of kind 1, 2, 3, 5, 6 or 7
 abbrev pub Plain : (ℕ → Entry) → ℕ → Type 0
 Plain e i = ¬ (shapeAt e i .kind ≡ 0)
 
--- there is no kind above 3
-pub kind-le : (s : ℕ → ℕ) (d : Entry) → shape s d .kind ≤ 3
-unfolding shape
-kind-le s Zero = omega arith
-kind-le s (Atom a) = omega arith
-kind-le s (Pair l r) = omega arith
-kind-le s (Enc m k) = omega arith
-kind-le s (Sum items) = omega arith
+-- a half's kind is 5 or 6
+pub half-kind : (x : Side) → (halfKind x ≡ 5) ⊎ (halfKind x ≡ 6)
+unfolding halfKind
+half-kind private = inl refl
+half-kind public = inr refl
+
+pub half-plain : (x : Side) → ¬ (halfKind x ≡ 0)
+half-plain x q = ⊎-elim (λ (p : halfKind x ≡ 5). omega arith) (λ (p : halfKind x ≡ 6). omega arith) (half-kind x)
 
 module _ (e : ℕ → Entry) where
   pub first-le : (i : ℕ) → first e i ≤ i
@@ -86,7 +87,7 @@ module _ (e : ℕ → Entry) where
   first-plain i p h = p (sym (ap (λ (x : Shape). x .kind) (first-shape i)) ∙ h)
 
   module _ (n : ℕ) (down : Downward e n) where
-    -- an entry of kind 1 to 3 has the set of its first, and a first has itself alone
+    -- a plain entry has the set of its first, and a first has itself alone
     plain-set : (i : ℕ) → i < n → Plain e i → setAt e i ≡ standardSet (setAt e) e i
     unfolding buildSet shape
     plain-set i h p = setAt-build e n down i h ∙ go (e i) p
@@ -97,6 +98,8 @@ module _ (e : ℕ → Entry) where
         go (Pair l r) q = refl
         go (Enc m k) q = refl
         go (Sum items) q = absurd (q refl)
+        go (Half x a) q = refl
+        go (Aenc m k) q = refl
 
     pub set-first : (i : ℕ) → i < n → Plain e i → setAt e i ≡ 2 ^ first e i
     unfolding standardSet

@@ -1,54 +1,56 @@
 -- Standard entries are linearly independent.
--- Shown: entries of kind 1 to 3 with one place have one shape; so a set of standard entries whose codes sum to nothing is empty, and two
+-- Shown: plain entries with one place have one shape; so a set of standard entries whose codes sum to nothing is empty, and two
 -- such sets with one sum are equal. The proof goes up the entries: the parts of an entry come before it. Assumes nothing.
 use mathlib.Core.Path.{_≡_, refl, sym, ap, _∙_}
-use mathlib.Core.Bool.{Bool, true, false, cond}
+use mathlib.Core.Bool.{Bool, true, false, true≢false, cond}
 use mathlib.Core.Logic.{inl, inr}
 use mathlib.Core.List.{List·Memᴰ, List·Memᴰ·head, List·Memᴰ·tail}
 use Prim.Native.Nat.{ℕ, zero, suc, _-_, _≤_, _<_}
 use native.Mathlib.Nat.{not-suc-le-zero, le-refl, lt-of-lt-of-le}
 use native.Mathlib.Omega.{arith}
 use lib.Bits.{bitXor, xor-self}
-use lib.Dec.{eqb}
-use borrow.Author.Tests.{eqb-false}
 use Rattle.bitset.specs.Set.{member}
 use Rattle.bitset.proofs.Laws.Sums.{member-part, sum-empty-same}
-use Rattle.deduction.specs.Entry.{Entry, Zero, Atom, Pair, Enc, Sum, parts, Downward}
-use Rattle.deduction.specs.Standard.{Shape, shape, setAt, StandardSet}
+use Rattle.deduction.specs.Term.{private, public}
+use Rattle.deduction.specs.Entry.{Entry, Zero, Atom, Pair, Enc, Sum, Half, Aenc, parts, Downward}
+use Rattle.deduction.specs.Standard.{Shape, halfKind, shape, setAt, StandardSet}
 use Rattle.deduction.proofs.Elimination.Spans.{xorOver}
 use Rattle.deduction.proofs.Coding.{bit, place-same}
 use Rattle.deduction.proofs.Elimination.Sums.{xorOver-sum}
 use Rattle.deduction.proofs.Standard.First.{shapeAt, first, Plain, first-same}
 use Rattle.deduction.proofs.Standard.Members.{members-le, members-standard, standard-first}
-use Rattle.deduction.proofs.Standard.Codes.{codeAt, part, placeOf, code-place}
+use Rattle.deduction.proofs.Standard.Codes.{codeAt, numbered, part, placeOf, code-place}
 use Rattle.deduction.proofs.Standard.Places.{places-empty}
 
 module _ (e : ℕ → Entry) (n : ℕ) (down : Downward e n) where
-  -- a shape of kind 2 or 3 has the sets of two earlier entries
-  shape-parts : (i : ℕ) → i < n → Plain e i → ¬ (shapeAt e i .kind ≡ 1)
+  -- a shape without a number has the sets of two earlier entries
+  shape-parts : (i : ℕ) → i < n → Plain e i → numbered (shapeAt e i .kind) ≡ false
       → (l : ℕ) × (r : ℕ) × (l < i) × (r < i) × (shapeAt e i .left ≡ setAt e l) × (shapeAt e i .right ≡ setAt e r)
-  unfolding shape parts
+  unfolding shape halfKind parts
   shape-parts i h p o = go (e i) (λ k m. down i k h m) p o
     where
-      go : (d : Entry) → ((k : ℕ) → List·Memᴰ k (parts d) → k < i) → ¬ (shape (setAt e) d .kind ≡ 0) → ¬ (shape (setAt e) d .kind ≡ 1)
+      go : (d : Entry) → ((k : ℕ) → List·Memᴰ k (parts d) → k < i) → ¬ (shape (setAt e) d .kind ≡ 0) → numbered (shape (setAt e) d .kind) ≡ false
           → (l : ℕ) × (r : ℕ) × (l < i) × (r < i) × (shape (setAt e) d .left ≡ setAt e l) × (shape (setAt e) d .right ≡ setAt e r)
       go Zero b z w = absurd (z refl)
-      go (Atom a) b z w = absurd (w refl)
+      go (Atom a) b z w = absurd (true≢false w)
       go (Pair l r) b z w = (l, r, b l (List·Memᴰ·head refl), b r (List·Memᴰ·tail (List·Memᴰ·head refl)), refl, refl)
       go (Enc m k) b z w = (m, k, b m (List·Memᴰ·head refl), b k (List·Memᴰ·tail (List·Memᴰ·head refl)), refl, refl)
       go (Sum items) b z w = absurd (z refl)
+      go (Half private a) b z w = absurd (true≢false w)
+      go (Half public a) b z w = absurd (true≢false w)
+      go (Aenc m k) b z w = (m, k, b m (List·Memᴰ·head refl), b k (List·Memᴰ·tail (List·Memᴰ·head refl)), refl, refl)
 
   -- below m, sets with one sum are equal
   abbrev Apart : ℕ → Type 0
   Apart m = (l r : ℕ) → l < m → r < m → xorOver (codeAt e) n (setAt e l) ≡ xorOver (codeAt e) n (setAt e r) → setAt e l ≡ setAt e r
 
-  part-same : (k x y : ℕ) → part e n k x ≡ part e n k y → (¬ (k ≡ 1) → xorOver (codeAt e) n x ≡ xorOver (codeAt e) n y → x ≡ y) → x ≡ y
-  part-same k x y = go (eqb k 1) refl
+  part-same : (k x y : ℕ) → part e n k x ≡ part e n k y → (numbered k ≡ false → xorOver (codeAt e) n x ≡ xorOver (codeAt e) n y → x ≡ y) → x ≡ y
+  part-same k x y = go (numbered k) refl
     where
-      go : (b : Bool) → eqb k 1 ≡ b → cond b x (xorOver (codeAt e) n x) ≡ cond b y (xorOver (codeAt e) n y)
-          → (¬ (k ≡ 1) → xorOver (codeAt e) n x ≡ xorOver (codeAt e) n y → x ≡ y) → x ≡ y
+      go : (b : Bool) → numbered k ≡ b → cond b x (xorOver (codeAt e) n x) ≡ cond b y (xorOver (codeAt e) n y)
+          → (numbered k ≡ false → xorOver (codeAt e) n x ≡ xorOver (codeAt e) n y → x ≡ y) → x ≡ y
       go true p h f = h
-      go false p h f = f (eqb-false k 1 p) h
+      go false p h f = f p h
 
   -- one place, one shape
   place-shape : (m : ℕ) → Apart m → (i j : ℕ) → i ≤ m → j ≤ m → i < n → j < n → Plain e i → Plain e j
@@ -73,19 +75,19 @@ module _ (e : ℕ → Entry) (n : ℕ) (down : Downward e n) where
       lefts : x .left ≡ y .left
       lefts = part-same (x .kind) (x .left) (y .left) (places .1 ∙ ap (λ (k : ℕ). part e n k (y .left)) (sym kinds)) known
         where
-          known : ¬ (x .kind ≡ 1) → xorOver (codeAt e) n (x .left) ≡ xorOver (codeAt e) n (y .left) → x .left ≡ y .left
+          known : numbered (x .kind) ≡ false → xorOver (codeAt e) n (x .left) ≡ xorOver (codeAt e) n (y .left) → x .left ≡ y .left
           known o q =
               let u = shape-parts i hi pi o in
-              let w = shape-parts j hj pj (λ z. o (kinds ∙ z)) in
+              let w = shape-parts j hj pj (ap numbered (sym kinds) ∙ o) in
               u .4 ∙ a (u .0) (w .0) (lt-of-lt-of-le (u .2) li) (lt-of-lt-of-le (w .2) lj) (ap (xorOver (codeAt e) n) (sym (u .4)) ∙ q ∙ ap (xorOver (codeAt e) n) (w .4)) ∙ sym (w .4)
 
       rights : x .right ≡ y .right
       rights = part-same (x .kind) (x .right) (y .right) (places .2 ∙ ap (λ (k : ℕ). part e n k (y .right)) (sym kinds)) known
         where
-          known : ¬ (x .kind ≡ 1) → xorOver (codeAt e) n (x .right) ≡ xorOver (codeAt e) n (y .right) → x .right ≡ y .right
+          known : numbered (x .kind) ≡ false → xorOver (codeAt e) n (x .right) ≡ xorOver (codeAt e) n (y .right) → x .right ≡ y .right
           known o q =
               let u = shape-parts i hi pi o in
-              let w = shape-parts j hj pj (λ z. o (kinds ∙ z)) in
+              let w = shape-parts j hj pj (ap numbered (sym kinds) ∙ o) in
               u .5 ∙ a (u .1) (w .1) (lt-of-lt-of-le (u .3) li) (lt-of-lt-of-le (w .3) lj) (ap (xorOver (codeAt e) n) (sym (u .5)) ∙ q ∙ ap (xorOver (codeAt e) n) (w .5)) ∙ sym (w .5)
 
   -- a set of standard entries up to m whose codes sum to nothing

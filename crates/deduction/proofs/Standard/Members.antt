@@ -15,12 +15,12 @@ use Rattle.bitset.specs.Set.{member}
 use Rattle.bitset.proofs.Laws.Member.{member-empty, member-single}
 use Rattle.bitset.proofs.Laws.Sums.{member-part}
 use Rattle.deduction.specs.Term.{sumOf}
-use Rattle.deduction.specs.Entry.{Entry, Zero, Atom, Pair, Enc, Sum, build, termAt, parts, Downward}
+use Rattle.deduction.specs.Entry.{Entry, Zero, Atom, Pair, Enc, Sum, Half, Aenc, build, termAt, parts, Downward}
 use Rattle.deduction.specs.Standard.{shape, xorAll, buildSet, setAt, repAt, standard}
 use Rattle.deduction.proofs.Terms.{termAt-build}
 use Rattle.deduction.proofs.Standard.Least.{least-only}
 use Rattle.deduction.proofs.Standard.Sets.{setAt-build, before-ind}
-use Rattle.deduction.proofs.Standard.First.{shapeAt, first, Plain, first-le, first-first, first-plain, set-first, both-true}
+use Rattle.deduction.proofs.Standard.First.{shapeAt, first, Plain, first-le, first-first, first-plain, set-first, both-true, half-plain}
 
 -- a member of a sum is a member of an item
 pub xorAll-member : (s : ℕ → ℕ) (js : List ℕ) (k : ℕ) → member (xorAll s js) k ≡ true → (j : ℕ) × List·Memᴰ j js × (member (s j) k ≡ true)
@@ -65,6 +65,8 @@ module _ (e : ℕ → Entry) (n : ℕ) (down : Downward e n) where
       go (Pair l r) s t p = inl (λ q. omega arith)
       go (Enc m k) s t p = inl (λ q. omega arith)
       go (Sum items) s t p = inr (items, record { set = s; term = t; before = p })
+      go (Half x a) s t p = inl (half-plain x)
+      go (Aenc m k) s t p = inl (λ q. omega arith)
 
   -- the members of an entry's set
   members : (i : ℕ) → i < n → (k : ℕ) → member (setAt e i) k ≡ true → (k ≤ i) × Plain e k × (first e k ≡ k)

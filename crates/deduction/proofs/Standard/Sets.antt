@@ -14,7 +14,7 @@ use lib.Dec.{ltb}
 use lib.ListN.{length, getD, length-append, List·getD-append}
 use lib.Seq.{getD-at}
 use borrow.Author.Tests.{ltb-true}
-use Rattle.deduction.specs.Entry.{Entry, Zero, Atom, Pair, Enc, Sum, parts, Downward}
+use Rattle.deduction.specs.Entry.{Entry, Zero, Atom, Pair, Enc, Sum, Half, Aenc, parts, Downward}
 use Rattle.deduction.specs.Standard.{shape, alike, xorAll, firstAlike, standardSet, buildSet, sets, setAt}
 use Rattle.deduction.proofs.Standard.Least.{least-same}
 
@@ -38,6 +38,8 @@ shape-same s s′ (Atom a) h = refl
 shape-same s s′ (Pair l r) h = λ i. record { kind = 2; left = h l (List·Memᴰ·head refl) i; right = h r (List·Memᴰ·tail (List·Memᴰ·head refl)) i }
 shape-same s s′ (Enc m k) h = λ i. record { kind = 3; left = h m (List·Memᴰ·head refl) i; right = h k (List·Memᴰ·tail (List·Memᴰ·head refl)) i }
 shape-same s s′ (Sum items) h = refl
+shape-same s s′ (Half x a) h = refl
+shape-same s s′ (Aenc m k) h = λ i. record { kind = 7; left = h m (List·Memᴰ·head refl) i; right = h k (List·Memᴰ·tail (List·Memᴰ·head refl)) i }
 
 pub xorAll-same : (s s′ : ℕ → ℕ) (js : List ℕ) → ((j : ℕ) → List·Memᴰ j js → s j ≡ s′ j) → xorAll s js ≡ xorAll s′ js
 unfolding xorAll
@@ -67,6 +69,8 @@ module _ (e : ℕ → Entry) (n : ℕ) (down : Downward e n) where
     build-agrees (Pair l r) p = standard-agrees
     build-agrees (Enc m k) p = standard-agrees
     build-agrees (Sum items) p = xorAll-same s s′ items (λ j m. agree j (p j m))
+    build-agrees (Half x a) p = standard-agrees
+    build-agrees (Aenc m k) p = standard-agrees
 
   -- the set of an entry, from the sets of the entries before it
   pub setAt-build : (i : ℕ) → i < n → setAt e i ≡ buildSet (setAt e) e i (e i)

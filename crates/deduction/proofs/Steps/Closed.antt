@@ -1,12 +1,12 @@
 -- Where no step follows, the known entries are closed.
 -- Shown: an open head that is a sum of known ones follows by a sum of the entries that sums draw on; where nothing follows, the entries
--- whose heads are known are closed under the six rules within the sheet. Assumes nothing.
+-- whose heads are known are closed under the eight rules within the sheet. Assumes nothing.
 use mathlib.Core.Path.{_≡_, refl, sym, _∙_}
 use mathlib.Core.Bool.{Bool, true, false, true≢false}
 use mathlib.Core.List.{List, [], _∷_, map, List·Memᴰ, List·Memᴰ·head, List·Memᴰ·tail, Memᴰ·of-map, Memᴰ·cast}
 use Prim.Native.Nat.{ℕ, _<_}
 use Rattle.bitset.specs.Set.{member}
-use Rattle.deduction.specs.Term.{sumOf, _≈_, in-pair, in-enc, in-sum, same, flip, then}
+use Rattle.deduction.specs.Term.{sumOf, _≈_, in-pair, in-enc, in-aenc, in-sum, same, flip, then}
 use Rattle.deduction.specs.Entry.{Entry, termAt, Downward}
 use Rattle.deduction.specs.Standard.{setAt, repAt}
 use Rattle.deduction.specs.Elimination.{reduce}
@@ -64,6 +64,8 @@ module _ (e : ℕ → Entry) (n : ℕ) (down : Downward e n) where
             sum = λ i js hi f q.
                 gain i hi
                 (λ o. let (u, g) = sum-follows (repAt e i) (map (repAt e) js) o (among js (λ j m. f j m .1)) (then (rep i hi) (then q (sum-heads js (λ j m. f j m .0)))) in (_, g));
+            adecrypt = λ i j k s a hi hj hk m c q r. gain j hj (λ o. (_, Follows.adecrypt s a o m c (then (rep i hi) (then q (in-aenc (flip (rep j hj)) same))) (then (rep k hk) r)));
+            aencrypt = λ i j k s a hi hj hk m c q r. gain i hi (λ o. (_, Follows.aencrypt s a o m c (then (rep i hi) (then q (in-aenc (flip (rep j hj)) (flip (rep k hk))))) (then (rep k hk) r)));
           }
         where
           rep : (i : ℕ) → i < n → termAt e (repAt e i) ≈ termAt e i

@@ -5,7 +5,7 @@ use mathlib.Core.Path.{refl}
 use mathlib.Core.Logic.{_↔_, inl, inr}
 use mathlib.Core.List.{List, _∷_, List·Memᴰ·head, List·Memᴰ·tail, List·Memᴰ·cases-cons}
 use Rattle.deduction.specs.Term.{Term, _≈_, same, flip, then}
-use Rattle.deduction.specs.Derivation.{Holds, Derivation, Derivable, begin, first, second, decrypt, join, encrypt, sum}
+use Rattle.deduction.specs.Derivation.{Holds, Derivation, Derivable, begin, first, second, decrypt, join, encrypt, sum, adecrypt, aencrypt}
 
 abbrev pub Keeps : List Term → List Term → Type 0
 Keeps g h = (u : Term) → Holds g u → Holds h u
@@ -40,6 +40,8 @@ derivation-kept f (decrypt {m = m} d p q) = let (h, c, k) = derivation-kept f d 
 derivation-kept f (join d p q) = let (h, c, k) = derivation-kept f d in (_, join c (k _ p) (k _ q), keeps-newest _ _ same k)
 derivation-kept f (encrypt d p q) = let (h, c, k) = derivation-kept f d in (_, encrypt c (k _ p) (k _ q), keeps-newest _ _ same k)
 derivation-kept f (sum ts d p) = let (h, c, k) = derivation-kept f d in (_, sum ts c (λ u m. k u (p u m)), keeps-newest _ _ same k)
+derivation-kept f (adecrypt {m = m} d p q) = let (h, c, k) = derivation-kept f d in (m ∷ h, adecrypt c (k _ p) (k _ q), keeps-newest m m same k)
+derivation-kept f (aencrypt d p q) = let (h, c, k) = derivation-kept f d in (_, aencrypt c (k _ p) (k _ q), keeps-newest _ _ same k)
 
 pub derivable-kept : {start other : List Term} → Keeps start other → (u : Term) → Derivable start u → Derivable other u
 derivable-kept f u (g, d, p) = let (h, c, k) = derivation-kept f d in (h, c, k u p)

@@ -26,6 +26,8 @@ follows-open e n (Follows.decrypt o m c q) = o
 follows-open e n (Follows.join o m c q) = o
 follows-open e n (Follows.encrypt o m c q) = o
 follows-open e n (Follows.sum u o f q) = o
+follows-open e n (Follows.adecrypt s a o m c q r) = o
+follows-open e n (Follows.aencrypt s a o m c q r) = o
 
 module _ (e : ℕ → Entry) (n : ℕ) (down : Downward e n) where
   -- with the head of a step that follows, heads stay heads
@@ -45,7 +47,7 @@ module _ (e : ℕ → Entry) (n : ℕ) (down : Downward e n) (es : List ℕ) (he
   pub next-unique : (s r : Step) → IsNext (termAt e) n es s → IsNext (termAt e) n es r → s ≡ r
   next-unique s r (fs, ls) (fr, lr) =
       let (h, q, i) = agree s r (lr s fs) (ls r fr) in
-      follows-expand e n down knowledge-learnt heads fs ∙ (λ t. expand e (knowledge e es) (h t) (q t) (i t)) ∙ sym (follows-expand e n down knowledge-learnt heads fr)
+      follows-expand e n down knowledge-learnt heads fs ∙ (λ t. expand e n (knowledge e es) (h t) (q t) (i t)) ∙ sym (follows-expand e n down knowledge-learnt heads fr)
 
   module _ (small : n ≤ 256) where
     follows-small : {s : Step} → Follows (termAt e) n es s → Small s
@@ -61,6 +63,8 @@ module _ (e : ℕ → Entry) (n : ℕ) (down : Downward e n) (es : List ℕ) (he
         rule (Follows.join o m c q) = omega arith
         rule (Follows.encrypt o m c q) = omega arith
         rule (Follows.sum u o g q) = omega arith
+        rule (Follows.adecrypt s a o m c q r) = omega arith
+        rule (Follows.aencrypt s a o m c q r) = omega arith
 
         source : {r : Step} → Follows (termAt e) n es r → Source r
         source (Follows.first {i = i} b o m q) = inl (λ x. omega arith, known i m)
@@ -69,6 +73,8 @@ module _ (e : ℕ → Entry) (n : ℕ) (down : Downward e n) (es : List ℕ) (he
         source (Follows.join {i = i} o m c q) = inl (λ x. omega arith, known i m)
         source (Follows.encrypt {i = i} o m c q) = inl (λ x. omega arith, known i m)
         source (Follows.sum u o g q) = inr (refl, refl)
+        source (Follows.adecrypt {i = i} s a o m c q r) = inl (λ x. omega arith, known i m)
+        source (Follows.aencrypt {i = i} s a o m c q r) = inl (λ x. omega arith, known i m)
 
     -- the search's number is at most that of any step that follows
     next-under : {s : Step} → Follows (termAt e) n es s → nextNumber e n (knowledge e es) ≤ numberOf s
@@ -77,9 +83,9 @@ module _ (e : ℕ → Entry) (n : ℕ) (down : Downward e n) (es : List ℕ) (he
 
     found-next : (nextNumber e n (knowledge e es) ≡ noStep) ⊎ (Follows (termAt e) n es (nextStep e n es) × (numberOf (nextStep e n es) ≡ nextNumber e n (knowledge e es)))
     unfolding nextNumber nextStep
-    found-next = go (least-one noStep (allOffers e (knowledge e es .known) (isSumOf e (knowledge e es)) n))
+    found-next = go (least-one noStep (allOffers e n (knowledge e es .known) (isSumOf e (knowledge e es)) n))
       where
-        go : (nextNumber e n (knowledge e es) ≡ noStep) ⊎ List·Memᴰ (nextNumber e n (knowledge e es)) (allOffers e (knowledge e es .known) (isSumOf e (knowledge e es)) n)
+        go : (nextNumber e n (knowledge e es) ≡ noStep) ⊎ List·Memᴰ (nextNumber e n (knowledge e es)) (allOffers e n (knowledge e es .known) (isSumOf e (knowledge e es)) n)
             → (nextNumber e n (knowledge e es) ≡ noStep) ⊎ (Follows (termAt e) n es (nextStep e n es) × (numberOf (nextStep e n es) ≡ nextNumber e n (knowledge e es)))
         go (inl p) = inl p
         go (inr m) = inr (offered-found e n down small knowledge-learnt m)

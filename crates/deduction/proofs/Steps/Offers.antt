@@ -11,32 +11,35 @@ use native.Mathlib.Decide.{decLt}
 use native.Mathlib.Omega.{arith}
 use borrow.Author.Tests.{eq-eqb}
 use Rattle.bitset.specs.Set.{member}
-use Rattle.deduction.specs.Term.{_≈_}
-use Rattle.deduction.specs.Entry.{Entry, Pair, Enc, termAt, Downward}
+use Rattle.deduction.specs.Term.{Side, opposite, half, _≈_, then}
+use Rattle.deduction.specs.Entry.{Entry, Pair, Enc, Aenc, termAt, Downward}
 use Rattle.deduction.specs.Standard.{setAt, repAt}
 use Rattle.deduction.specs.Elimination.{Knowledge, reduce}
 use Rattle.deduction.specs.Step.{Step, step, unused, Open, Follows}
-use Rattle.deduction.specs.Run.{number, offer, opened, built, offers, allOffers, isSumOf, secondPart, expand}
+use Rattle.deduction.specs.Run.{number, opener, anyHalf, offer, opened, built, offers, allOffers, isSumOf, secondPart, expand}
 use Rattle.deduction.proofs.Elimination.State.{Learnt}
+use Rattle.deduction.proofs.Forms.{pairs, encs, aencs}
+use Rattle.deduction.proofs.Standard.{rep-rep, rep-same}
 use Rattle.deduction.proofs.Standard.SumTest.{sum-test-unique}
-use Rattle.deduction.proofs.Steps.Head.{Heads, head-rep, rep-of, pair-record, enc-record}
+use Rattle.deduction.proofs.Steps.Head.{Heads, head-rep, rep-below, rep-of, form-record, half-record}
+use Rattle.deduction.proofs.Steps.Opener.{opener-head}
 use Rattle.deduction.proofs.Steps.Numbers.{numberOf, choose, choose-not}
 use Rattle.deduction.proofs.Steps.Drawn.{drawn-independent}
 
 -- what any of the first m entries offers is among all offers
-pub offers-all : (e : ℕ → Entry) (g : ℕ) (f : ℕ → Bool) (m i : ℕ) {x : ℕ} → i < m → List·Memᴰ x (offers e g f i) → List·Memᴰ x (allOffers e g f m)
+pub offers-all : (e : ℕ → Entry) (n g : ℕ) (f : ℕ → Bool) (m i : ℕ) {x : ℕ} → i < m → List·Memᴰ x (offers e n g f i) → List·Memᴰ x (allOffers e n g f m)
 unfolding allOffers
-offers-all e g f zero i l o = absurd (not-suc-le-zero l)
-offers-all e g f (suc m) i {x} l o =
-    by-cases (decLt i m) (λ q. Memᴰ·append-left (offers e g f m) (offers-all e g f m i q o))
-    (λ q. Memᴰ·append-right (allOffers e g f m) (subst (λ (j : ℕ). List·Memᴰ x (offers e g f j)) (last q) o))
+offers-all e n g f zero i l o = absurd (not-suc-le-zero l)
+offers-all e n g f (suc m) i {x} l o =
+    by-cases (decLt i m) (λ q. Memᴰ·append-left (offers e n g f m) (offers-all e n g f m i q o))
+    (λ q. Memᴰ·append-right (allOffers e n g f m) (subst (λ (j : ℕ). List·Memᴰ x (offers e n g f j)) (last q) o))
   where
     last : ¬ (i < m) → i ≡ m
     last q = omega arith
 
 module _ (e : ℕ → Entry) (n : ℕ) (down : Downward e n) {es : List ℕ} {k : Knowledge} (l : Learnt (setAt e) n es k) (heads : Heads e n es) where
   abbrev All : List ℕ
-  All = allOffers e (k .known) (isSumOf e k) n
+  All = allOffers e n (k .known) (isSumOf e k) n
 
   -- an entry that wasn't learnt isn't in the known set
   pub not-known : (h : ℕ) → ¬ (List·Memᴰ h es) → member (k .known) h ≡ false
@@ -47,29 +50,29 @@ module _ (e : ℕ → Entry) (n : ℕ) (down : Downward e n) {es : List ℕ} {k 
       go true p = absurd (f (l .members h .0 p))
 
   -- where an offer stands
-  by-opened : (i : ℕ) {x : ℕ} (d : Entry) → List·Memᴰ i es → e i ≡ d → List·Memᴰ x (opened e (k .known) i d) → List·Memᴰ x All
+  by-opened : (i : ℕ) {x : ℕ} (d : Entry) → List·Memᴰ i es → e i ≡ d → List·Memᴰ x (opened e n (k .known) i d) → List·Memᴰ x All
   unfolding offers
   by-opened i {x} d m p o =
-      offers-all e (k .known) (isSumOf e k) n i (heads i m .0)
+      offers-all e n (k .known) (isSumOf e k) n i (heads i m .0)
       (choose _ _ _ (eq-eqb (repAt e i) i (heads i m .1))
-      (choose _ _ _ (l .members i .1 m) (subst (λ (c : Entry). List·Memᴰ x (opened e (k .known) i c)) (sym p) o)))
+      (choose _ _ _ (l .members i .1 m) (subst (λ (c : Entry). List·Memᴰ x (opened e n (k .known) i c)) (sym p) o)))
 
-  by-built : (h : ℕ) {x : ℕ} (d : Entry) → Open (termAt e) n es h → e h ≡ d → List·Memᴰ x (built e (k .known) h d) → List·Memᴰ x All
+  by-built : (h : ℕ) {x : ℕ} (d : Entry) → Open (termAt e) n es h → e h ≡ d → List·Memᴰ x (built e n (k .known) h d) → List·Memᴰ x All
   unfolding offers
   by-built h {x} d o p m =
-      offers-all e (k .known) (isSumOf e k) n h (o .0 .0)
+      offers-all e n (k .known) (isSumOf e k) n h (o .0 .0)
       (choose _ _ _ (eq-eqb (repAt e h) h (head-rep e n down h (o .0)))
-      (choose-not _ _ _ (not-known h (o .1)) (Memᴰ·append-left _ (subst (λ (c : Entry). List·Memᴰ x (built e (k .known) h c)) (sym p) m))))
+      (choose-not _ _ _ (not-known h (o .1)) (Memᴰ·append-left _ (subst (λ (c : Entry). List·Memᴰ x (built e n (k .known) h c)) (sym p) m))))
 
   by-sum : (h : ℕ) → Open (termAt e) n es h → reduce (k .rows) (setAt e h) .remainder ≡ 0 → List·Memᴰ (number h 6 0) All
   unfolding offers isSumOf
   by-sum h o z =
-      offers-all e (k .known) (isSumOf e k) n h (o .0 .0)
+      offers-all e n (k .known) (isSumOf e k) n h (o .0 .0)
       (choose _ _ _ (eq-eqb (repAt e h) h (head-rep e n down h (o .0)))
-      (choose-not _ _ _ (not-known h (o .1)) (Memᴰ·append-right (built e (k .known) h (e h)) (choose _ _ _ (eq-eqb _ 0 z) (List·Memᴰ·head refl)))))
+      (choose-not _ _ _ (not-known h (o .1)) (Memᴰ·append-right (built e n (k .known) h (e h)) (choose _ _ _ (eq-eqb _ 0 z) (List·Memᴰ·head refl)))))
 
   -- the offer of an open head, written by another number for it
-  offered : (x h r i : ℕ) → x ≡ h → Open (termAt e) n es h → List·Memᴰ (number h r i) (offer e (k .known) x r i)
+  offered : (x h r i : ℕ) → x ≡ h → Open (termAt e) n es h → List·Memᴰ (number h r i) (offer e n (k .known) x r i)
   unfolding offer
   offered x h r i p o = choose-not _ _ _ (ap (member (k .known)) p ∙ not-known h (o .1)) (List·Memᴰ·head (ap (λ (y : ℕ). number y r i) (sym p)))
 
@@ -83,43 +86,68 @@ module _ (e : ℕ → Entry) (n : ℕ) (down : Downward e n) {es : List ℕ} {k 
   known-rep : (x i : ℕ) → x < n → List·Memᴰ i es → termAt e x ≈ termAt e i → repAt e x ≡ i
   known-rep x i lx m q = rep-of e n down x i lx (heads i m .0) (heads i m .1) q
 
+  -- what opens a lock whose key is a half: the known entry with the opposite half's term
+  opens : (y j : ℕ) (s : Side) (a : ℕ) → y < n → termAt e y ≈ half s a → List·Memᴰ j es → termAt e j ≈ half (opposite s) a → opener e n (e (repAt e y)) ≡ j
+  opens y j s a ly sy c r =
+      opener-head e n down (repAt e y) j s a (half-record e n down (repAt e y) s a (rep-below e n down y ly) (rep-rep e y) (then (rep-same e n down y ly) sy)) (heads j c .0) (heads j c .1) r
+
+  -- the key of a lock that a half builds is a half
+  half-key : (y j : ℕ) (s : Side) (a : ℕ) → y < n → termAt e y ≈ termAt e j → List·Memᴰ j es → termAt e j ≈ half s a → anyHalf (e (repAt e y)) ≡ true
+  unfolding anyHalf
+  half-key y j s a ly sy c r = ap (λ (x : ℕ). anyHalf (e x)) (known-rep y j ly c sy) ∙ ap anyHalf (half-record e n down j s a (heads j c .0) (heads j c .1) r)
+
   pub follows-offered : {s : Step} → Follows (termAt e) n es s → List·Memᴰ (numberOf s) All
   unfolding numberOf opened built
   follows-offered (Follows.first {h = h} {i = i} b o m q) =
-      let (x, y, p, lx, ly, sx, sy) = pair-record e n down i (heads i m .0) (heads i m .1) q in
+      let (x, y, p, lx, ly, sx, sy) = form-record e n down pairs i (heads i m .0) (heads i m .1) q in
       by-opened i (Pair x y) m p (Memᴰ·append-left _ (offered (repAt e x) h 1 i (open-rep x h lx o sx) o))
   follows-offered (Follows.second {h = h} {i = i} a o m q) =
-      let (x, y, p, lx, ly, sx, sy) = pair-record e n down i (heads i m .0) (heads i m .1) q in
-      by-opened i (Pair x y) m p (Memᴰ·append-right (offer e (k .known) (repAt e x) 1 i) (offered (repAt e y) h 2 i (open-rep y h ly o sy) o))
+      let (x, y, p, lx, ly, sx, sy) = form-record e n down pairs i (heads i m .0) (heads i m .1) q in
+      by-opened i (Pair x y) m p (Memᴰ·append-right (offer e n (k .known) (repAt e x) 1 i) (offered (repAt e y) h 2 i (open-rep y h ly o sy) o))
   follows-offered (Follows.decrypt {h = h} {i = i} {j = j} o m c q) =
-      let (x, y, p, lx, ly, sx, sy) = enc-record e n down i (heads i m .0) (heads i m .1) q in
+      let (x, y, p, lx, ly, sx, sy) = form-record e n down encs i (heads i m .0) (heads i m .1) q in
       by-opened i (Enc x y) m p (choose _ _ _ (known-as (repAt e y) j (known-rep y j ly c sy) c) (offered (repAt e x) h 3 i (open-rep x h lx o sx) o))
   follows-offered (Follows.join {h = h} {i = i} {j = j} o m c q) =
-      let (x, y, p, lx, ly, sx, sy) = pair-record e n down h (o .0 .0) (head-rep e n down h (o .0)) q in
+      let (x, y, p, lx, ly, sx, sy) = form-record e n down pairs h (o .0 .0) (head-rep e n down h (o .0)) q in
       by-built h (Pair x y) o p
       (choose _ _ _ (ap₂ _&&_ (known-as (repAt e x) i (known-rep x i lx m sx) m) (known-as (repAt e y) j (known-rep y j ly c sy) c))
       (List·Memᴰ·head (ap (number h 4) (sym (known-rep x i lx m sx)))))
   follows-offered (Follows.encrypt {h = h} {i = i} {j = j} o m c q) =
-      let (x, y, p, lx, ly, sx, sy) = enc-record e n down h (o .0 .0) (head-rep e n down h (o .0)) q in
+      let (x, y, p, lx, ly, sx, sy) = form-record e n down encs h (o .0 .0) (head-rep e n down h (o .0)) q in
       by-built h (Enc x y) o p
       (choose _ _ _ (ap₂ _&&_ (known-as (repAt e x) i (known-rep x i lx m sx) m) (known-as (repAt e y) j (known-rep y j ly c sy) c))
       (List·Memᴰ·head (ap (number h 5) (sym (known-rep x i lx m sx)))))
   follows-offered (Follows.sum {h = h} u o f q) =
       by-sum h o (sum-test-unique e n down l h (o .0 .0) u (λ j m. drawn-independent e n down es (l .below) j .0 (f j m)) q .0)
+  follows-offered (Follows.adecrypt {h = h} {i = i} {j = j} s a o m c q r) =
+      let (x, y, p, lx, ly, sx, sy) = form-record e n down aencs i (heads i m .0) (heads i m .1) q in
+      by-opened i (Aenc x y) m p (choose _ _ _ (known-as _ j (opens y j s a ly sy c r) c) (offered (repAt e x) h 7 i (open-rep x h lx o sx) o))
+  follows-offered (Follows.aencrypt {h = h} {i = i} {j = j} s a o m c q r) =
+      let (x, y, p, lx, ly, sx, sy) = form-record e n down aencs h (o .0 .0) (head-rep e n down h (o .0)) q in
+      by-built h (Aenc x y) o p
+      (choose _ _ _
+      (ap₂ _&&_ (half-key y j s a ly sy c r) (ap₂ _&&_ (known-as (repAt e x) i (known-rep x i lx m sx) m) (known-as (repAt e y) j (known-rep y j ly c sy) c)))
+      (List·Memᴰ·head (ap (number h 8) (sym (known-rep x i lx m sx)))))
 
   -- a step that follows is the expansion of its head, rule and first source
-  pub follows-expand : {s : Step} → Follows (termAt e) n es s → s ≡ expand e k (s .head) (s .rule) (s .first)
+  pub follows-expand : {s : Step} → Follows (termAt e) n es s → s ≡ expand e n k (s .head) (s .rule) (s .first)
   unfolding expand secondPart
   follows-expand (Follows.first b o m q) = refl
   follows-expand (Follows.second a o m q) = refl
   follows-expand (Follows.decrypt {h = h} {i = i} {j = j} o m c q) =
-      let (x, y, p, lx, ly, sx, sy) = enc-record e n down i (heads i m .0) (heads i m .1) q in
+      let (x, y, p, lx, ly, sx, sy) = form-record e n down encs i (heads i m .0) (heads i m .1) q in
       ap (λ (z : ℕ). step h 3 i z 0) (sym (ap (λ (d : Entry). repAt e (secondPart d)) p ∙ known-rep y j ly c sy))
   follows-expand (Follows.join {h = h} {i = i} {j = j} o m c q) =
-      let (x, y, p, lx, ly, sx, sy) = pair-record e n down h (o .0 .0) (head-rep e n down h (o .0)) q in
+      let (x, y, p, lx, ly, sx, sy) = form-record e n down pairs h (o .0 .0) (head-rep e n down h (o .0)) q in
       ap (λ (z : ℕ). step h 4 i z 0) (sym (ap (λ (d : Entry). repAt e (secondPart d)) p ∙ known-rep y j ly c sy))
   follows-expand (Follows.encrypt {h = h} {i = i} {j = j} o m c q) =
-      let (x, y, p, lx, ly, sx, sy) = enc-record e n down h (o .0 .0) (head-rep e n down h (o .0)) q in
+      let (x, y, p, lx, ly, sx, sy) = form-record e n down encs h (o .0 .0) (head-rep e n down h (o .0)) q in
       ap (λ (z : ℕ). step h 5 i z 0) (sym (ap (λ (d : Entry). repAt e (secondPart d)) p ∙ known-rep y j ly c sy))
   follows-expand (Follows.sum {h = h} u o f q) =
       ap (step h 6 unused unused) (sum-test-unique e n down l h (o .0 .0) u (λ j m. drawn-independent e n down es (l .below) j .0 (f j m)) q .1)
+  follows-expand (Follows.adecrypt {h = h} {i = i} {j = j} s a o m c q r) =
+      let (x, y, p, lx, ly, sx, sy) = form-record e n down aencs i (heads i m .0) (heads i m .1) q in
+      ap (λ (z : ℕ). step h 7 i z 0) (sym (ap (λ (d : Entry). opener e n (e (repAt e (secondPart d)))) p ∙ opens y j s a ly sy c r))
+  follows-expand (Follows.aencrypt {h = h} {i = i} {j = j} s a o m c q r) =
+      let (x, y, p, lx, ly, sx, sy) = form-record e n down aencs h (o .0 .0) (head-rep e n down h (o .0)) q in
+      ap (λ (z : ℕ). step h 8 i z 0) (sym (ap (λ (d : Entry). repAt e (secondPart d)) p ∙ known-rep y j ly c sy))

@@ -8,7 +8,7 @@ use mathlib.Core.Logic.{_↔_, _⊎_, inl, inr}
 use mathlib.Core.List.{List, [], _∷_, _++_, map, List·Memᴰ, List·Memᴰ·head, List·Memᴰ·tail, List·Memᴰ·not-nil, List·Memᴰ·cases-cons, List·Memᴰ·append-cases, List·Memᴰ·eq-of-singleton, Memᴰ·append-left, Memᴰ·append-right, Memᴰ·map, Memᴰ·of-map}
 use Prim.Native.Nat.{ℕ, zero, suc, _<_}
 use Rattle.bitset.specs.Set.{member}
-use Rattle.deduction.specs.Term.{Term, _⊕_, sumOf, _≈_, same, flip}
+use Rattle.deduction.specs.Term.{Term, _⊕_, sumOf, _≈_, in-aenc, same, flip, then}
 use Rattle.deduction.specs.Derivation.{Holds, Derivation, Derivable}
 use Rattle.deduction.specs.Standard.{sumOfSet}
 use Rattle.deduction.specs.Step.{Step, Drawn, Follows}
@@ -95,6 +95,8 @@ module _ (t : ℕ → Term) where
     right-kept f (Right.join {i = i} {j = j} l p c q) = Right.join l (used-kept f i p) (used-kept f j c) q
     right-kept f (Right.encrypt {i = i} {j = j} l p c q) = Right.encrypt l (used-kept f i p) (used-kept f j c) q
     right-kept f (Right.sum l p q) = Right.sum l (λ j m. used-kept f j (p j m)) q
+    right-kept f (Right.adecrypt {i = i} {j = j} s a l p c q r) = Right.adecrypt s a l (used-kept f i p) (used-kept f j c) q r
+    right-kept f (Right.aencrypt {i = i} {j = j} s a l p c q r) = Right.aencrypt s a l (used-kept f i p) (used-kept f j c) q r
 
     pub replays-kept : {g h a : List Term} {ss : List Step} → Keeps g h → Replays t n g ss a → Replays t n h ss (endState t h ss)
     unfolding endState
@@ -111,6 +113,8 @@ module _ (t : ℕ → Term) where
     right-derives {d = held} d f (Right.sum {h = h} {u = u} l p q) =
         let (ts, k, r) = set-list t (Holds held) n u (λ j m. f (t j) (p j m .1)) in
         (sumOf ts, Derivation.sum ts d k, subst (λ (x : Term). x ≈ t h) (sym r) (flip q))
+    right-derives d f (Right.adecrypt s a l p c q r) = (_, Derivation.adecrypt d (held-same (f _ (p .1)) q) (held-same (f _ (c .1)) r), same)
+    right-derives d f (Right.aencrypt s a l p c q r) = (_, Derivation.aencrypt d (f _ (p .1)) (held-same (f _ (c .1)) r), then (in-aenc same (flip r)) (flip q))
 
     replay-extends : {start d g a : List Term} {ss : List Step} → Derivation start d → Alike d g → Replays t n g ss a → (b : List Term) × Derivation start b × Alike b a
     replay-extends {d = held} d f done = (held, d, f)
@@ -136,6 +140,8 @@ module _ (t : ℕ → Term) where
       where
         drawn : (j : ℕ) → Drawn t n es j → List·Memᴰ j es
         drawn j x = subst (λ (l : List ℕ). List·Memᴰ j l) (sym (x .2)) (Memᴰ·append-right (x .0) (List·Memᴰ·head refl))
+    follows-right f (Follows.adecrypt {i = i} {j = j} s a o m c q r) = (Right.adecrypt s a (o .0 .0) (f i m) (f j c) q r, o .0 .0)
+    follows-right f (Follows.aencrypt {i = i} {j = j} s a o m c q r) = (Right.aencrypt s a (o .0 .0) (f i m) (f j c) q r, o .0 .0)
 
     pub made-replays-from : {es : List ℕ} {ss : List Step} (g : List Term) → ((i : ℕ) → List·Memᴰ i es → Used t n g i) → Made t n es ss → Replays t n g ss (endState t g ss)
     unfolding endState
