@@ -37,16 +37,16 @@ fn nth(s: [u64; 4], w: u8) -> u64
     requires { ⌜ w < 4 ⌝ }
     ensures { λ r. ⌜ r ≡ getD s w 0 ⌝ }
 {
-    if w == 0 {
-        return s[0];
-    }
-    if w == 1 {
-        return s[1];
-    }
-    if w == 2 {
+    if 1 < w {
+        if 2 < w {
+            return s[3];
+        }
         return s[2];
     }
-    s[3]
+    if 0 < w {
+        return s[1];
+    }
+    s[0]
 }
 
 // Is e in s?
@@ -54,6 +54,16 @@ pub fn member(s: [u64; 4], e: u8) -> bool
     ensures { λ r. ⌜ r ≡ member (value s) e ⌝ }
 {
     (nth(s, word_of(e)) >> bit_of(e)) % 2 == 1
+}
+
+// Is e in s, where e may be past every entry?
+pub fn has(s: [u64; 4], e: u16) -> bool
+    ensures { λ r. ⌜ r ≡ member (value s) e ⌝ }
+{
+    if 255 < e {
+        return false;
+    }
+    member(s, e as u8)
 }
 
 // Exactly e.
