@@ -4,7 +4,7 @@
 -- `either-read`, the same number in either length is the same entry; `same-atoms`, on a good sheet two atoms have the same representative exactly
 -- when their numbers are equal. Assumes nothing.
 use mathlib.Core.Path.{_≡_, refl, sym, ap, _∙_, subst}
-use mathlib.Core.Bool.{Bool, true, false, _||_}
+use mathlib.Core.Bool.{true}
 use mathlib.Core.List.{List, [], _∷_}
 use mathlib.Core.Logic.{_⊎_, inl, inr, ⊎-elim, _↔_}
 use Prim.Native.Nat.{ℕ, zero, suc, _+_, _*_, _/_, _%_, _^_, _<_}
@@ -13,7 +13,7 @@ use lib.ListN.{length, getD}
 use borrow.Author.Tests.{eqb-true}
 use lib.Dec.{eqb}
 use Rattle.deduction.specs.Term.{Term, atom, _≈_, same}
-use Rattle.deduction.specs.Entry.{Atom, build, termAt}
+use Rattle.deduction.specs.Entry.{Entry, Atom, build, termAt}
 use Rattle.deduction.specs.Standard.{repAt}
 use Rattle.deduction.proofs.Distinct.{atom-same}
 use Rattle.deduction.proofs.Terms.{termAt-build}
@@ -21,7 +21,8 @@ use Rattle.deduction.proofs.Standard.{rep-equal}
 use Rattle.dag.specs.Sheet.{numberAt, countOf, recordAt}
 use Rattle.dag.specs.Record.{kindOf, fits, atomOf, decodeAs, decode, entryAt}
 use Rattle.dag.specs.Refusal.{refusal}
-use Rattle.dag.proofs.Laws.Sheet.{two-bytes}
+use Rattle.dag.proofs.Laws.Sheet.{two-bytes, three-bytes}
+use Rattle.dag.proofs.Laws.Refusal.{or-either}
 use Rattle.dag.proofs.Laws.Record.{fits-short, atom-long, atom-short}
 use Rattle.dag.proofs.Laws.Good.{good}
 
@@ -32,23 +33,17 @@ shortRecord a = 1 ∷ a / 256 ∷ a % 256 ∷ []
 abbrev pub longRecord : ℕ → List ℕ
 longRecord a = 1 ∷ a / 2 ^ 24 ∷ a / 2 ^ 16 % 256 ∷ a / 2 ^ 8 % 256 ∷ a % 256 ∷ []
 
--- a list of bytes with a length that its kind has, which reads as this atom
-pub record Reads (r : List ℕ) (a : ℕ) : Type 0 where
+-- a list of bytes with a length that its kind has, which reads as this entry
+pub record Reads (r : List ℕ) (e : Entry) : Type 0 where
   pub bytes : (k : ℕ) → getD r k 0 < 256
   pub fitting : fits (kindOf r) (length r) ≡ true
-  pub entry : decode r ≡ Atom a
+  pub entry : decode r ≡ e
 
-pub short-read : (a : ℕ) → a < 2 ^ 16 → Reads (shortRecord a) a
+pub short-read : (a : ℕ) → a < 2 ^ 16 → Reads (shortRecord a) (Atom a)
 unfolding fits decodeAs atomOf numberAt
-short-read a h = record { bytes = small; fitting = refl; entry = ap Atom (two-bytes a) }
-  where
-    small : (k : ℕ) → getD (shortRecord a) k 0 < 256
-    small zero = omega arith
-    small (suc zero) = omega (arith, h)
-    small (suc (suc zero)) = omega arith
-    small (suc (suc (suc k))) = omega arith
+short-read a h = record { bytes = three-bytes 1 a (omega arith) h; fitting = refl; entry = ap Atom (two-bytes a) }
 
-pub long-read : (a : ℕ) → a < 2 ^ 32 → Reads (longRecord a) a
+pub long-read : (a : ℕ) → a < 2 ^ 32 → Reads (longRecord a) (Atom a)
 unfolding fits decodeAs atomOf numberAt
 long-read a h = record { bytes = small; fitting = refl; entry = ap Atom (joined a) }
   where
@@ -71,13 +66,9 @@ either-read a h = short-read a h .entry ∙ sym (long-read a (omega (arith, h)) 
 pub lengths : (len : ℕ) → (fits 1 len ≡ true) ↔ ((len ≡ 3) ⊎ (len ≡ 5))
 unfolding fits
 lengths len = (
-  λ p. go (eqb len 3) refl p,
+  λ p. ⊎-elim (λ q. inl (eqb-true len 3 q)) (λ q. inr (eqb-true len 5 q)) (or-either (eqb len 3) (eqb len 5) p),
   λ p. ⊎-elim (λ q. sym (fits-short len q)) (λ q. subst (λ (l : ℕ). fits 1 l ≡ true) (sym q) refl) p,
 )
-  where
-    go : (b : Bool) → eqb len 3 ≡ b → (b || eqb len 5) ≡ true → (len ≡ 3) ⊎ (len ≡ 5)
-    go true q p = inl (eqb-true len 3 q)
-    go false q p = inr (eqb-true len 5 p)
 
 -- "none is cut"
 pub short-whole : (r : List ℕ) → length r ≡ 3 → atomOf r ≡ getD r 1 0 * 2 ^ 8 + getD r 2 0

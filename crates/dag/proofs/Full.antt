@@ -15,10 +15,10 @@ use lib.ListN.{length, getD, take, drop, List·getD-eq-default}
 use lib.Seq.{length-take-le, getD-take, getD-drop, ext-getD}
 use Rattle.dag.specs.Sheet.{numberAt, letters, countOf, traceLength, goalOf, offsetAt, lengthAt, traceAt, recordsFrom, beginAt, recordAt, listed}
 use Rattle.dag.specs.Record.{kindOf, fits, itemCount, itemAt}
-use Rattle.dag.specs.Refusal.{first, longest, noSheet, badCount, shortList, badPair, badPairs, badRecordAt, badRecords, notListed, notListedAt, refusal}
+use Rattle.dag.specs.Refusal.{first, longest, noSheet, badCount, shortList, badPair, badPairs, badRecord, badRecordAt, badRecords, notListed, notListedAt, refusal}
 use Rattle.dag.proofs.Laws.Refusal.{or-no, when-no, orElse-none, all-none, none-from, equal-same}
 use Rattle.dag.proofs.Laws.Sheet.{two-bytes, length-listed, getD-listed}
-use Rattle.dag.proofs.Laws.Parts.{record-none, record-items}
+use Rattle.dag.proofs.Laws.Parts.{parts-none, record-none, record-items, wrong-other, fault-half}
 use Rattle.dag.proofs.Laws.Passed.{record-length}
 
 -- where the record of entry i begins, and its length
@@ -219,15 +219,23 @@ row4 =
     orElse-none (first (badPair fullSheet) (countOf fullSheet)) _ (all-none (badPair fullSheet) (countOf fullSheet) (λ i h. pair-good i (omega (arith, h, count))))
     ∙ sym (when-no 4 (le-ltb (beginAt fullSheet (countOf fullSheet)) (length fullSheet) (omega (arith, full-length, ap (beginAt fullSheet) count ∙ begins 256 (le-refl 256)))))
 
-record-good : (i : ℕ) → i < 256 → badRecordAt fullSheet i ≡ 0
+record-plain : (i : ℕ) → i < 256 → (kindOf (recordAt fullSheet i) ≡ 7 → ⊥) × (badRecord i (recordAt fullSheet i) ≡ 0)
 unfolding fits len
-record-good zero h = sym (record-none 0 (recordAt fullSheet 0) (ap₂ fits atom-kind (extent-length 0 h)) (omega (arith, atom-kind)))
-record-good (suc m) h =
+record-plain zero h =
+    let r = recordAt fullSheet 0 in
+    ((λ p. omega (arith, atom-kind)), sym (record-none 0 r (ap₂ fits atom-kind (extent-length 0 h)) (parts-none (kindOf r) r (omega (arith, atom-kind)))))
+record-plain (suc m) h =
     let r = recordAt fullSheet (suc m) in
     let kind : kindOf r ≡ 4 = sum-byte m 0 h (omega arith) in
-    let items : itemCount r ≡ 64 = ap (λ (l : ℕ). (l - 1) / 2) (extent-length (suc m) h) in
-    sym (when-no 6 (none-from (suc m) (itemAt r) (itemCount r) (λ j l. omega (arith, sum-item m j h (omega (arith, l, items)))))
-    ∙ record-items (suc m) r (ap₂ fits kind (extent-length (suc m) h)) (omega (arith, kind)))
+    let items : itemCount r ≡ 64 = ap (λ (l : ℕ). (l - 1) / 2) (extent-length (suc m) h) in (
+      (λ p. omega (arith, kind)),
+      sym (when-no 6 (none-from (suc m) (itemAt r) (itemCount r) (λ j l. omega (arith, sum-item m j h (omega (arith, l, items)))))
+          ∙ record-items (suc m) r (ap₂ fits kind (extent-length (suc m) h)) kind),
+    )
+
+record-good : (i : ℕ) → i < 256 → badRecordAt fullSheet i ≡ 0
+record-good i h =
+    let p = record-plain i h in sym (fault-half fullSheet i (sym (p .1)) refl (wrong-other fullSheet (recordAt fullSheet i) (p .0)))
 
 row5 : badRecords fullSheet ≡ 0
 unfolding badRecords

@@ -1,3 +1,4 @@
 pub mod Laws
 pub mod Atoms
+pub mod Halves
 pub mod Full

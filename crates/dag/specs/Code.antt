@@ -1,7 +1,7 @@
--- Document 01's number for each refusal.
+-- The number of each refusal in documents 01 and 02.
 use Prim.Native.Nat.{ℕ}
 use Rattle.dag.specs.declared.Refusal.{Refusal}
-use Rattle.dag.specs.declared.Refusal.the-variants.{Nothing, NoSheet, BadCount, ShortList, BadPair, BadRecord, Forward, NotListed, PastTheLog, OverBudget, NoSpace}
+use Rattle.dag.specs.declared.Refusal.the-variants.{Nothing, NoSheet, BadCount, ShortList, BadPair, BadRecord, Forward, NotListed, PastTheLog, OverBudget, NoSpace, WrongHalf}
 
 abbrev pub codeOf : Refusal → ℕ
 codeOf Nothing = 0
@@ -15,3 +15,4 @@ codeOf NotListed = 7
 codeOf PastTheLog = 8
 codeOf OverBudget = 9
 codeOf NoSpace = 10
+codeOf WrongHalf = 12

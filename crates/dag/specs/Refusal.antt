@@ -1,4 +1,4 @@
--- The grounding table of document 01, rows 1 to 7, for any list of bytes: each row a test, and the first that holds.
+-- The grounding table of document 01, rows 1 to 7, and document 02's row 12, for any list of bytes: each row a test, and the first that holds.
 -- Defined: `refusal`, 0 where the sheet is good, else the number of its refusal.
 use Prim.Native.Nat.{ℕ, zero, suc, _+_}
 use mathlib.Core.Bool.{Bool, true, false, not, cond, _&&_, _||_}
@@ -6,7 +6,7 @@ use mathlib.Core.List.{List, [], _∷_}
 use lib.Dec.{eqb, ltb, leb}
 use lib.ListN.{length, take}
 use Rattle.deduction.specs.Entry.{parts}
-use Rattle.dag.specs.Sheet.{letters, countOf, traceLength, goalOf, offsetAt, lengthAt, traceAt, recordsFrom, beginAt, recordAt, listed}
+use Rattle.dag.specs.Sheet.{numberAt, letters, countOf, traceLength, goalOf, offsetAt, lengthAt, traceAt, recordsFrom, beginAt, recordAt, listed}
 use Rattle.dag.specs.Record.{kindOf, fits, itemCount, itemAt, decode}
 
 -- the number k where the test holds, else 0; of two, the first that isn't 0; of f 0 .. f (n - 1), the first that isn't 0
@@ -61,13 +61,21 @@ badPairs s = orElse (first (badPair s) (countOf s)) (when (ltb (beginAt s (count
 abbrev pub forwardItems : ℕ → List ℕ → ℕ
 forwardItems i r = when (anyFrom i (listed (itemAt r) (itemCount r))) 6
 
--- 5 bad record: "kind over 4 or a length its kind lacks". 6 forward: "an entry number in a record (an atom's number is none) not below the
--- record's own". "records are taken entry by entry, 5 before 6 in each"
+-- 5 bad record: "kind over 4 or a length its kind lacks", and document 02, E6: "Refusal 5 now starts at kind 8". 6 forward: "an entry number in a
+-- record (an atom's number is none) not below the record's own". "records are taken entry by entry, 5 before 6 in each"
 unfoldable pub badRecord : ℕ → List ℕ → ℕ
 badRecord i r = orElse (when (not (fits (kindOf r) (length r))) 5) (when (anyFrom i (parts (decode r))) 6)
 
-abbrev pub badRecordAt : List ℕ → ℕ → ℕ
-badRecordAt s i = badRecord i (recordAt s i)
+-- 12 wrong half: "when a lock's key entry is not itself of kind 5 or 6": the kind byte of the key entry's own record, for a record r of a lock
+abbrev pub kindAt : List ℕ → ℕ → ℕ
+kindAt s i = kindOf (recordAt s i)
+
+unfoldable pub wrongHalf : List ℕ → List ℕ → ℕ
+wrongHalf s r = when (eqb (kindOf r) 7 && not (eqb (kindAt s (numberAt r 3)) 5 || eqb (kindAt s (numberAt r 3)) 6)) 12
+
+-- "checked after 6 in the same record"
+unfoldable pub badRecordAt : List ℕ → ℕ → ℕ
+badRecordAt s i = orElse (badRecord i (recordAt s i)) (wrongHalf s (recordAt s i))
 
 unfoldable pub badRecords : List ℕ → ℕ
 badRecords s = first (badRecordAt s) (countOf s)
@@ -79,6 +87,6 @@ notListedAt s k = when (leb (countOf s) (traceAt s k)) 7
 unfoldable pub notListed : List ℕ → ℕ
 notListed s = first (notListedAt s) (traceLength s)
 
--- "Order: by number, except that records are taken entry by entry, 5 before 6 in each"
+-- "Order: by number, except that records are taken entry by entry, 5 before 6 in each", and 12 after 6
 unfoldable pub refusal : List ℕ → ℕ
 refusal s = orElse (noSheet s) (orElse (badCount s) (orElse (shortList s) (orElse (badPairs s) (orElse (badRecords s) (notListed s)))))

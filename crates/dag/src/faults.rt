@@ -1,6 +1,6 @@
 // The rows of document 01's grounding table, each as its number or 0. Each answers for any slice.
 ghost use mathlib.Core.Path.{_≡_};
-ghost use Rattle.dag.specs.Refusal.{noSheet, badCount, shortList, badPairs, badRecord, badRecords, notListed, forwardItems, refusal};
+ghost use Rattle.dag.specs.Refusal.{orElse, noSheet, badCount, shortList, badPairs, badRecord, wrongHalf, badRecordAt, badRecords, notListed, forwardItems, refusal};
 use crate::record;
 use crate::sheet;
 
@@ -110,8 +110,11 @@ pub fn bad_record(r: &[u8], i: u16) -> u8
     if kind < 2 {
         return 0;
     }
-    if 3 < kind {
+    if kind == 4 {
         return forward_items(r, i);
+    }
+    if record::is_half(kind) {
+        return 0;
     }
     if i <= record::first(r) {
         return 6;
@@ -122,14 +125,47 @@ pub fn bad_record(r: &[u8], i: u16) -> u8
     0
 }
 
-// Rows 5 and 6, entry by entry.
+// Row 12 for a record of the sheet: is it a lock whose key entry is no half by its own kind?
+fn wrong_half(s: &[u8], r: &[u8]) -> u8
+    ensures { λ x. ⌜ x ≡ wrongHalf (now (s .entry)) (now (r .entry)) ⌝ }
+{
+    if record::kind(r) != 7 {
+        return 0;
+    }
+    if record::is_half(record::kind(sheet::record(s, record::second(r)))) {
+        return 0;
+    }
+    12
+}
+
+// Of two rows in order the first that holds.
+fn earlier(a: u8, b: u8) -> u8
+    ensures { λ x. ⌜ x ≡ orElse a b ⌝ }
+{
+    if a != 0 {
+        return a;
+    }
+    b
+}
+
+// Rows 5, 6 and 12 for entry i.
+fn bad_record_at(s: &[u8], i: u16) -> u8
+    ensures { λ x. ⌜ x ≡ badRecordAt (now (s .entry)) i ⌝ }
+{
+    let r = sheet::record(s, i);
+    let fault = bad_record(r, i);
+    let half = wrong_half(s, r);
+    earlier(fault, half)
+}
+
+// Rows 5, 6 and 12, entry by entry.
 pub fn bad_records(s: &[u8]) -> u8
     ensures { λ r. ⌜ r ≡ badRecords (now (s .entry)) ⌝ }
 {
     let n = sheet::count(s);
     let mut i: u16 = 0;
     while i < n {
-        let fault = bad_record(sheet::record(s, i), i);
+        let fault = bad_record_at(s, i);
         if fault != 0 {
             return fault;
         }

@@ -1,5 +1,7 @@
 // What a record's bytes say.
 ghost use mathlib.Core.Path.{_≡_};
+ghost use mathlib.Core.Bool.{_||_};
+ghost use lib.Dec.{eqb};
 ghost use Rattle.dag.specs.Sheet.{numberAt};
 ghost use Rattle.dag.specs.Record.{kindOf, fits, atomOf, itemCount};
 use crate::sheet;
@@ -12,6 +14,16 @@ pub fn kind(r: &[u8]) -> u8
         return 0;
     }
     r[0]
+}
+
+// Is this the kind of a half, private or public?
+pub fn is_half(kind: u8) -> bool
+    ensures { λ b. ⌜ b ≡ (eqb kind 5 || eqb kind 6) ⌝ }
+{
+    if kind == 5 {
+        return true;
+    }
+    kind == 6
 }
 
 // Do atoms have records of this length? The short record has a number of two bytes, the long one a number of four.
@@ -46,6 +58,12 @@ pub fn has_length(kind: u8, len: usize) -> bool
         }
         return len <= 129;
     }
+    if is_half(kind) {
+        return len == 3;
+    }
+    if kind == 7 {
+        return len == 5;
+    }
     false
 }
 
@@ -61,14 +79,15 @@ pub fn atom(r: &[u8]) -> u32
     high as u32
 }
 
-// The number after the kind byte: a pair's left, an encryption's message, the upper half of a long atom's number or the whole of a short one's.
+// The number after the kind byte: a pair's left, the message of an encryption of either sort, a key pair's number, the upper half of a long atom's
+// number or the whole of a short one's.
 pub fn first(r: &[u8]) -> u16
     ensures { λ x. ⌜ x ≡ numberAt (now (r .entry)) 1 ⌝ }
 {
     sheet::number_at(r, 1)
 }
 
-// The number after that: a pair's right, an encryption's key, the lower half of a long atom's number.
+// The number after that: a pair's right, the key of an encryption of either sort, the lower half of a long atom's number.
 pub fn second(r: &[u8]) -> u16
     ensures { λ x. ⌜ x ≡ numberAt (now (r .entry)) 3 ⌝ }
 {

@@ -1,6 +1,6 @@
 -- What holds of a good sheet, one that is not refused.
 -- Shown: `good`, from `refusal s ≡ 0`: every count is in its range, every record lies in the sheet and has a length of its kind, every entry
--- number in a record is below the record's own, and every heard number and the goal are entries. Assumes nothing.
+-- number in a record is below the record's own, every lock's key entry is a half, and every heard number and the goal are entries. Assumes nothing.
 use mathlib.Core.Path.{_≡_}
 use mathlib.Core.Bool.{true, false, not, _||_}
 use mathlib.Core.List.{List}
@@ -8,12 +8,13 @@ use Prim.Native.Nat.{ℕ, _+_, _≤_, _<_}
 use borrow.Author.Tests.{ltb-false, leb-false, not-false}
 use lib.Dec.{ltb}
 use lib.ListN.{length, take}
-use Rattle.deduction.specs.Entry.{Downward}
+use Rattle.deduction.specs.Term.{Side}
+use Rattle.deduction.specs.Entry.{Half, Aenc, Downward}
 use Rattle.dag.specs.Sheet.{letters, countOf, traceLength, goalOf, offsetAt, lengthAt, traceAt, recordsFrom, beginAt, recordAt}
 use Rattle.dag.specs.Record.{kindOf, fits, entryAt}
 use Rattle.dag.specs.Refusal.{orElse, equal, longest, noSheet, badCount, shortList, badPairs, badRecords, notListed, notListedAt, refusal}
 use Rattle.dag.proofs.Laws.Refusal.{or-false-left, or-false-right, orElse-zero-left, orElse-zero-right, when-zero, first-none, equal-true}
-use Rattle.dag.proofs.Laws.Passed.{some-entry, few-entries, few-messages, goal-entry, record-filled, record-follows, record-inside, end-reached, record-fits, parts-below}
+use Rattle.dag.proofs.Laws.Passed.{some-entry, few-entries, few-messages, goal-entry, record-filled, record-follows, record-inside, end-reached, record-fits, parts-below, key-half}
 
 pub record Good (s : List ℕ) : Type 0 where
   pub short : length s ≤ longest
@@ -29,6 +30,7 @@ pub record Good (s : List ℕ) : Type 0 where
   pub whole : beginAt s (countOf s) ≡ length s
   pub kinds : (i : ℕ) → i < countOf s → fits (kindOf (recordAt s i)) (length (recordAt s i)) ≡ true
   pub downward : Downward (entryAt s) (countOf s)
+  pub halves : (i m k : ℕ) → i < countOf s → entryAt s i ≡ Aenc m k → (x : Side) × (a : ℕ) × (entryAt s k ≡ Half x a)
   pub listed : (k : ℕ) → k < traceLength s → traceAt s k < countOf s
 
 module _ (s : List ℕ) (ok : refusal s ≡ 0) where
@@ -92,5 +94,6 @@ module _ (s : List ℕ) (ok : refusal s ≡ 0) where
         whole = end-reached s row4 (some-entry s row2);
         kinds = record-fits s row5;
         downward = parts-below s row5;
+        halves = key-half s row5;
         listed = (λ k h. leb-false (countOf s) (traceAt s k) (when-zero _ 6 (all-listed k h)));
       }

@@ -1,9 +1,10 @@
--- What rows 2, 4, 5 and 6 of the grounding table leave of a sheet that each lets pass.
--- Shown: the counts' ranges; where the records lie; their lengths and the entry numbers in them; the length of a record that lies in the sheet. Assumes
--- nothing.
-use mathlib.Core.Path.{_≡_, sym}
+-- What rows 2, 4, 5, 6 and 12 of the grounding table leave of a sheet that each lets pass.
+-- Shown: the counts' ranges; where the records lie; their lengths, the entry numbers in them and the locks' keys; the length of a record that lies in the
+-- sheet. Assumes nothing.
+use mathlib.Core.Path.{_≡_, sym, subst}
 use mathlib.Core.Bool.{true, false, not, _||_}
 use mathlib.Core.List.{List}
+use mathlib.Core.Logic.{_⊎_}
 use Prim.Native.Nat.{ℕ, zero, suc, _+_, _-_, _≤_, _<_}
 use native.Mathlib.Nat.{le-trans, le-of-eq, le-refl, le-antisymm}
 use native.Mathlib.Omega.{arith}
@@ -11,11 +12,14 @@ use borrow.Author.Tests.{ltb-false, leb-false, eqb-true, eqb-false, not-false}
 use lib.Dec.{eqb, ltb, leb}
 use lib.ListN.{length, drop, length-drop}
 use lib.Seq.{length-take-le}
-use Rattle.deduction.specs.Entry.{Downward, parts}
+use Rattle.deduction.specs.Term.{Side}
+use Rattle.deduction.specs.Entry.{Half, Aenc, Downward, parts}
 use Rattle.dag.specs.Sheet.{countOf, traceLength, goalOf, offsetAt, lengthAt, beginAt, recordAt}
 use Rattle.dag.specs.Record.{kindOf, fits, entryAt}
-use Rattle.dag.specs.Refusal.{when, first, anyFrom, badCount, badPair, badPairs, badRecord, badRecordAt, badRecords}
+use Rattle.dag.specs.Refusal.{when, first, anyFrom, badCount, badPair, badPairs, badRecord, kindAt, badRecordAt, badRecords}
 use Rattle.dag.proofs.Laws.Refusal.{or-false-left, or-false-right, orElse-zero-left, orElse-zero-right, when-zero, first-none, anyFrom-none}
+use Rattle.dag.proofs.Laws.Record.{lock-record, half-record}
+use Rattle.dag.proofs.Laws.Parts.{key-passed, fault-none}
 
 module _ (s : List ℕ) (row2 : badCount s ≡ 0) where
   test : (ltb (countOf s) 1 || (ltb 256 (countOf s) || (ltb 256 (traceLength s) || leb (countOf s) (goalOf s)))) ≡ false
@@ -82,14 +86,21 @@ module _ (s : List ℕ) (row5 : badRecords s ≡ 0) where
 
   pub record-fits : (i : ℕ) → i < countOf s → fits (kindOf (recordAt s i)) (length (recordAt s i)) ≡ true
   unfolding badRecord
-  record-fits i h = not-false _ (when-zero _ 4 (orElse-zero-left (when (not (fits (kindOf (recordAt s i)) (length (recordAt s i)))) 5) _ (records i h)))
+  record-fits i h = not-false _ (when-zero _ 4 (orElse-zero-left (when (not (fits (kindOf (recordAt s i)) (length (recordAt s i)))) 5) _ (fault-none s i (records i h) .0)))
 
   record-down : (i : ℕ) → i < countOf s → anyFrom i (parts (entryAt s i)) ≡ false
   unfolding badRecord
-  record-down i h = when-zero _ 5 (orElse-zero-right (when (not (fits (kindOf (recordAt s i)) (length (recordAt s i)))) 5) _ (records i h))
+  record-down i h = when-zero _ 5 (orElse-zero-right (when (not (fits (kindOf (recordAt s i)) (length (recordAt s i)))) 5) _ (fault-none s i (records i h) .0))
 
   pub parts-below : Downward (entryAt s) (countOf s)
   parts-below i j h m = anyFrom-none i (parts (entryAt s i)) (record-down i h) j m
+
+  -- a lock's key entry is a half by its own record
+  pub key-half : (i m k : ℕ) → i < countOf s → entryAt s i ≡ Aenc m k → (x : Side) × (a : ℕ) × (entryAt s k ≡ Half x a)
+  key-half i m k h p =
+      let r = recordAt s i in
+      let lock = lock-record (kindOf r) r m k p in
+      half-record (recordAt s k) (subst (λ (j : ℕ). (kindAt s j ≡ 5) ⊎ (kindAt s j ≡ 6)) (lock .1) (key-passed s r (fault-none s i (records i h) .1) (lock .0)))
 
 -- a record that lies in the sheet has the length that its pair says
 pub record-length : (s : List ℕ) (i : ℕ) → offsetAt s i + lengthAt s i ≤ length s → length (recordAt s i) ≡ lengthAt s i

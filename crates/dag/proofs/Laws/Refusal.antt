@@ -1,7 +1,7 @@
 -- Tests in a row, and the first fault of many. Assumes nothing.
 use mathlib.Core.Path.{_≡_, refl, sym, ap, ap₂, _∙_}
 use mathlib.Core.Bool.{Bool, true, false, true≢false, _&&_, _||_, or-false, or-true, or-assoc, and-false}
-use mathlib.Core.Logic.{⊎-elim, by-cases}
+use mathlib.Core.Logic.{_⊎_, inl, inr, ⊎-elim, by-cases}
 use mathlib.Core.List.{List, [], _∷_, _++_, List·Memᴰ, List·Memᴰ·not-nil, List·Memᴰ·cases-cons, List-discrete}
 use Prim.Native.Nat.{ℕ, zero, suc, _+_, _≤_, _<_}
 use native.Mathlib.Nat.{le-trans, le-of-eq, lt-of-le-of-lt}
@@ -19,6 +19,12 @@ or-yes b p = ap (λ (x : Bool). x || b) p
 
 pub or-no : {a b c : Bool} → a ≡ false → b ≡ c → (a || b) ≡ c
 or-no {a} {b} p q = ap (λ (x : Bool). x || b) p ∙ q
+
+pub and-yes : {a b c : Bool} → a ≡ true → b ≡ c → (a && b) ≡ c
+and-yes {a} {b} p q = ap (λ (x : Bool). x && b) p ∙ q
+
+pub and-no : {a : Bool} (b : Bool) → a ≡ false → (a && b) ≡ false
+and-no b p = ap (λ (x : Bool). x && b) p
 
 pub when-yes : {b : Bool} (k : ℕ) → b ≡ true → k ≡ when b k
 unfolding when
@@ -46,6 +52,13 @@ unfolding orElse
 orElse-some zero b n = absurd (n refl)
 orElse-some (suc a) b n = refl
 
+-- the answer x is this row's, a, or a later one's, b
+pub orElse-here : {x a : ℕ} (b : ℕ) → x ≡ a → (x ≡ 0 → ⊥) → x ≡ orElse a b
+orElse-here {x} {a} b p n = p ∙ sym (orElse-some a b (λ z. n (p ∙ z)))
+
+pub orElse-next : {x y a b : ℕ} → y ≡ a → y ≡ 0 → x ≡ b → x ≡ orElse a b
+orElse-next {x} {y} {a} {b} p z q = q ∙ sym (orElse-none a b (sym p ∙ z))
+
 pub orElse-zero-left : (a b : ℕ) → orElse a b ≡ 0 → a ≡ 0
 unfolding orElse
 orElse-zero-left zero b p = refl
@@ -58,6 +71,11 @@ orElse-zero-right (suc a) b p = absurd (suc-not-zero p)
   where
     suc-not-zero : suc a ≡ 0 → ⊥
     suc-not-zero q = omega arith
+
+-- of two, one that holds
+pub or-either : (a b : Bool) → (a || b) ≡ true → (a ≡ true) ⊎ (b ≡ true)
+or-either true b p = inl refl
+or-either false b p = inr p
 
 pub or-false-left : (a b : Bool) → (a || b) ≡ false → a ≡ false
 or-false-left true b p = p

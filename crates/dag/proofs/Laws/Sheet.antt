@@ -2,7 +2,7 @@
 use mathlib.Core.Path.{_≡_, refl, sym, ap, ap₂, _∙_}
 use mathlib.Core.List.{List, [], _∷_, _++_}
 use mathlib.Core.Logic.{by-cases}
-use Prim.Native.Nat.{ℕ, zero, suc, _+_, _-_, _*_, _/_, _%_, _≤_, _<_}
+use Prim.Native.Nat.{ℕ, zero, suc, _+_, _-_, _*_, _/_, _%_, _^_, _≤_, _<_}
 use native.Mathlib.Nat.{le-of-eq, le-of-lt, le-trans, add-zero}
 use native.Mathlib.Decide.{decLt}
 use native.Mathlib.Numerals.{add-one}
@@ -22,6 +22,13 @@ number-last s i h = sym (ap (λ (y : ℕ). getD s i 0 * 256 + y) (List·getD-eq-
 -- a number is what its high byte and its low byte say
 pub two-bytes : (x : ℕ) → x / 256 * 256 + x % 256 ≡ x
 two-bytes x = omega arith
+
+-- a kind and a number of 16 bits are three bytes
+pub three-bytes : (kind x : ℕ) → kind < 256 → x < 2 ^ 16 → (k : ℕ) → getD (kind ∷ x / 256 ∷ x % 256 ∷ []) k 0 < 256
+three-bytes kind x h l zero = h
+three-bytes kind x h l (suc zero) = omega arith
+three-bytes kind x h l (suc (suc zero)) = omega arith
+three-bytes kind x h l (suc (suc (suc k))) = omega arith
 
 -- a part that begins past the end is empty
 pub part-past : (s : List ℕ) (off len : ℕ) → length s < off → [] ≡ take len (drop off s)

@@ -1,15 +1,12 @@
--- `dag::named` meets its contract: a number from 0 to 10 that is none of 0 to 9 is 10.
-use mathlib.Core.Path.{_≡_}
-use Prim.Native.Nat.{ℕ, suc, _≤_, zero-le}
-use native.Mathlib.Nat.{le-antisymm}
-use native.Mathlib.Numerals.{lt-of-le-of-ne}
+-- `dag::named` meets its contract: a number from 0 to 10, or 12, that is none of 0 to 10 is 12.
+use Prim.Native.Nat.{zero-le}
+use mathlib.Core.Logic.{⊎-elim}
+use native.Mathlib.Omega.{arith}
 use mathlib.Core.Path.{sym}
 use borrow.Author.Needs.{needs}
+use Rattle.dag.proofs.Laws.Record.{up}
 use Rattle.dag.proofs.named.Statement.{statement}
 use Rattle.dag.proofs.named.Tie as tie
-
-up : (n k : ℕ) → n ≤ k → (k ≡ n → ⊥) → suc n ≤ k
-up n k h d = lt-of-le-of-ne h (λ e. d (sym e))
 
 returns : tie.Need-returns
 returns c = search needs
@@ -42,9 +39,13 @@ returns-10 : tie.Need-returns-10
 returns-10 c = search needs
 
 returns-11 : tie.Need-returns-11
-returns-11 c = let k = c .before .args .code in
+returns-11 c = search needs
+
+returns-12 : tie.Need-returns-12
+returns-12 c = let k = c .before .args .code in
     let r = c .match .rest in
-    le-antisymm (up 9 k (up 8 k (up 7 k (up 6 k (up 5 k (up 4 k (up 3 k (up 2 k (up 1 k (up 0 k zero-le (r .0 .0 .0 .0 .0 .0 .0 .0 .0 .1)) (r .0 .0 .0 .0 .0 .0 .0 .0 .1)) (r .0 .0 .0 .0 .0 .0 .0 .1)) (r .0 .0 .0 .0 .0 .0 .1)) (r .0 .0 .0 .0 .0 .1)) (r .0 .0 .0 .0 .1)) (r .0 .0 .0 .1)) (r .0 .0 .1)) (r .0 .1)) (r .1)) (c .before .pre)
+    let over = up 10 k (up 9 k (up 8 k (up 7 k (up 6 k (up 5 k (up 4 k (up 3 k (up 2 k (up 1 k (up 0 k zero-le (r .0 .0 .0 .0 .0 .0 .0 .0 .0 .0 .1)) (r .0 .0 .0 .0 .0 .0 .0 .0 .0 .1)) (r .0 .0 .0 .0 .0 .0 .0 .0 .1)) (r .0 .0 .0 .0 .0 .0 .0 .1)) (r .0 .0 .0 .0 .0 .0 .1)) (r .0 .0 .0 .0 .0 .1)) (r .0 .0 .0 .0 .1)) (r .0 .0 .0 .1)) (r .0 .0 .1)) (r .0 .1)) (r .1) in
+    ⊎-elim (λ h. absurd (omega (arith, over, h))) (λ h. sym h) (c .before .pre)
 
 pub named-spec : {M : Type 1} → statement M
 named-spec =
@@ -60,4 +61,5 @@ named-spec =
     returns-8
     returns-9
     returns-10
-    returns-11)
+    returns-11
+    returns-12)

@@ -1,10 +1,10 @@
 -- `dag::validate` meets its contract: a refusal is one of the table.
 use mathlib.Core.Path.{_∙_}
-use native.Mathlib.Nat.{le-trans, le-of-eq}
-use lib.Dec.{lit≤}
+use mathlib.Core.Logic.{inl, inr, ⊎-elim}
+use native.Mathlib.Omega.{arith}
 use borrow.Author.Needs.{needs}
 use denote.Ref.{now}
-use Rattle.dag.proofs.Laws.Table.{refusal-le}
+use Rattle.dag.proofs.Laws.Table.{refusal-named}
 use Rattle.dag.proofs.validate.Statement.{statement}
 use Rattle.dag.proofs.validate.Tie as tie
 
@@ -12,7 +12,7 @@ refused-requires : tie.Need-refused-requires
 refused-requires c κs = search needs
 
 named-requires : tie.Need-named-requires
-named-requires c κs = le-trans (le-of-eq (c .refused .ensures)) (le-trans (refusal-le (now (c .before .before .args .s))) (lit≤ tt))
+named-requires c κs = ⊎-elim (λ h. inl (omega (arith, h, c .refused .ensures))) (λ h. inr (c .refused .ensures ∙ h)) (refusal-named (now (c .before .before .args .s)))
 
 returns : tie.Need-returns
 returns c = c .named .ensures ∙ c .before .refused .ensures

@@ -6,7 +6,7 @@ use borrow.Author.Needs.{needs}
 use Rattle.dag.proofs.Laws.Refusal.{first-more, first-found}
 use denote.Ref.{now}
 use Rattle.dag.specs.Sheet.{countOf}
-use Rattle.dag.specs.Refusal.{first, badRecord, badRecordAt, badRecords}
+use Rattle.dag.specs.Refusal.{first, badRecordAt, badRecords}
 use Rattle.dag.proofs.faults.bad_records.Statement.{statement}
 use Rattle.dag.proofs.faults.bad_records.Tie as tie
 
@@ -28,17 +28,14 @@ loop-holds : tie.Need-loop-holds Inv-loop μ-loop
 unfolding first
 loop-holds c = (search needs, c .count .ensures, refl)
 
-record-requires : tie.Need-record-requires Inv-loop μ-loop
-record-requires c κs = search needs
-
-bad-record-requires : tie.Need-bad-record-requires Inv-loop μ-loop
-bad-record-requires c κs = search needs
+bad-record-at-requires : tie.Need-bad-record-at-requires Inv-loop μ-loop
+bad-record-at-requires c κs = search needs
 
 returns : tie.Need-returns Inv-loop μ-loop
 unfolding badRecords
-returns c = let s = now (c .before .before .before .before .before .before .before .args .s) in
-    let l = c .before .before .before .before .loop in
-    let e : c .before .bad-record .result ≡ badRecordAt s (l .i) = c .before .bad-record .ensures ∙ ap (badRecord (l .i)) (c .before .before .record .ensures) in
+returns c = let s = now (c .before .before .before .before .before .before .args .s) in
+    let l = c .before .before .before .loop in
+    let e : c .before .bad-record-at .result ≡ badRecordAt s (l .i) = c .before .bad-record-at .ensures in
     e ∙ first-found (badRecordAt s) (l .i) (countOf s) (omega arith) (l .inv .2) (λ z. c .if1 .taken (e ∙ z))
 
 add-i : tie.Need-add-i Inv-loop μ-loop
@@ -48,9 +45,9 @@ loop-less : tie.Need-loop-less Inv-loop μ-loop
 loop-less c = omega arith
 
 loop-again : tie.Need-loop-again Inv-loop μ-loop
-loop-again c = let s = now (c .before .before .before .before .before .before .before .args .s) in
-    let l = c .before .before .before .before .loop in
-    (omega arith, c .before .before .before .before .before .count .ensures, first-more (badRecordAt s) (l .i) (l .inv .2) (sym (c .before .bad-record .ensures ∙ ap (badRecord (l .i)) (c .before .before .record .ensures)) ∙ c .if1 .left))
+loop-again c = let s = now (c .before .before .before .before .before .before .args .s) in
+    let l = c .before .before .before .loop in
+    (omega arith, c .before .before .before .before .count .ensures, first-more (badRecordAt s) (l .i) (l .inv .2) (sym (c .before .bad-record-at .ensures) ∙ c .if1 .left))
 
 returns-2 : tie.Need-returns-2 Inv-loop μ-loop
 unfolding badRecords
@@ -64,8 +61,7 @@ bad-records-spec =
     μ-loop
     count-requires
     loop-holds
-    record-requires
-    bad-record-requires
+    bad-record-at-requires
     returns
     add-i
     loop-less
