@@ -4,3 +4,4 @@ pub mod Key
 pub mod Record
 pub mod Line
 pub mod Tables
+pub mod Opener

@@ -1,8 +1,10 @@
 // For each entry of a good sheet: its key, its set of standard entries and its representative, in three tables that the caller lends.
 ghost use mathlib.Core.Path.{_≡_};
+ghost use mathlib.Core.Bool.{_||_};
 ghost use mathlib.Core.List.{List·Memᴰ};
 ghost use Prim.Native.Nat.{ℕ, _+_, _*_, _≤_, _<_, _^_};
 ghost use lib.Dec.{eqb};
+ghost use lib.ListN.{length};
 ghost use Rattle.bitset.specs.Set.{single};
 ghost use Rattle.bitset.specs.Words.{value};
 ghost use Rattle.deduction.specs.Entry.{parts};
@@ -10,8 +12,8 @@ ghost use Rattle.deduction.specs.Standard.{least, xorAll};
 ghost use Rattle.dag.specs.Sheet.{countOf, listed};
 ghost use Rattle.dag.specs.Record.{itemCount, itemAt, decode, entryAt};
 ghost use Rattle.dag.specs.Refusal.{refusal};
-ghost use Rattle.canonical.specs.Inner.Key.{keyOf, keyKind, keyLeft, keyRight};
-ghost use Rattle.canonical.specs.Inner.Tables.{setIn, numberIn, RightLine, Right, Sized, Filled};
+ghost use Rattle.canonical.specs.Inner.Key.{keyOf, keyAt, keyKind, keyLeft, keyRight, keyOpener, oppositeKey};
+ghost use Rattle.canonical.specs.Inner.Tables.{setIn, numberIn, RightLine, Right, Sized, Filled, openIn, Opened, Finished};
 use dag::record;
 use dag::sheet;
 
@@ -22,7 +24,7 @@ struct Line {
     rep: u8,
 }
 
-// The key of a pair or an encryption whose parts have these representatives.
+// The key of a pair or an encryption of either sort whose parts have these representatives.
 fn key(kind: u8, left: u8, right: u8) -> u64
     ensures { λ r. ⌜ r ≡ kind * 2 ^ 32 + left * 256 + right ⌝ }
 {
@@ -36,7 +38,7 @@ pub fn kind(key: u64) -> u8
     (key / 4294967296 % 256) as u8
 }
 
-// The representative of the first part that a pair's or an encryption's key says.
+// The representative of the first part that such a key says.
 pub fn left(key: u64) -> u8
     ensures { λ r. ⌜ r ≡ keyLeft key ⌝ }
 {
@@ -48,6 +50,23 @@ pub fn right(key: u64) -> u8
     ensures { λ r. ⌜ r ≡ keyRight key ⌝ }
 {
     (key % 256) as u8
+}
+
+// The entry that opens a lock, as its key says; the number of entries where there is none.
+pub fn opener(key: u64) -> u16
+    ensures { λ r. ⌜ r ≡ keyOpener key ⌝ }
+{
+    (key / 65536 % 65536) as u16
+}
+
+// The key of the opposite half of a half with this key.
+fn opposite(key: u64) -> u64
+    ensures { λ r. ⌜ r ≡ oppositeKey key ⌝ }
+{
+    if kind(key) == 5 {
+        return 6 * 4294967296 + key % 4294967296;
+    }
+    5 * 4294967296 + key % 4294967296
 }
 
 // The set of entry i in the table.
@@ -65,15 +84,16 @@ fn rep_in(reps: &[u8; 256], i: u8) -> u8
 }
 
 // The lowest entry before n with this key, and n where there is none.
-fn first_key(keys: &[u64; 256], n: u8, key: u64) -> u8
+fn first_key(keys: &[u64; 256], n: u16, key: u64) -> u16
+    requires { ⌜ n ≤ 256 ⌝ }
     ensures { λ r. ⌜ r ≡ least (λ i. eqb (numberIn (now (keys .entry)) i) key) n ⌝ }
 {
-    let mut i: u8 = 0;
-    while i < n {
-        if keys[i as usize] == key {
-            return i;
+    let mut k: u16 = 0;
+    while k < n {
+        if keys[k as usize] == key {
+            return k;
         }
-        i += 1;
+        k += 1;
     }
     n
 }
@@ -109,28 +129,42 @@ fn sum_of_items(r: &[u8], sets: &[[u64; 4]; 256]) -> [u64; 4]
     sum
 }
 
+// Does a record of this kind have two parts?
+fn has_parts(kind: u8) -> bool
+    ensures { λ r. ⌜ r ≡ (eqb kind 2 || (eqb kind 3 || eqb kind 7)) ⌝ }
+{
+    if kind == 2 {
+        return true;
+    }
+    if kind == 3 {
+        return true;
+    }
+    kind == 7
+}
+
 // The key of a record, from the representatives of its parts.
 fn key_of(r: &[u8], reps: &[u8; 256]) -> u64
     requires { ⌜ ((j : ℕ) → List·Memᴰ j (parts (decode (now r))) → j < 256) ⌝ }
     ensures { λ x. ⌜ x ≡ keyOf (numberIn (now (reps .entry))) (decode (now (r .entry))) ⌝ }
 {
     let kind = record::kind(r);
-    if kind == 0 {
-        return 0;
-    }
-    if 3 < kind {
-        return 0;
-    }
     if kind == 1 {
         let number = record::atom(r);
         return 4294967296 + (number as u64);
     }
-    let first = record::first(r);
-    let second = record::second(r);
-    key(kind, rep_in(reps, first as u8), rep_in(reps, second as u8))
+    if record::is_half(kind) {
+        let number = record::first(r);
+        return (kind as u64) * 4294967296 + (number as u64);
+    }
+    if has_parts(kind) {
+        let first = record::first(r);
+        let second = record::second(r);
+        return key(kind, rep_in(reps, first as u8), rep_in(reps, second as u8));
+    }
+    0
 }
 
-// The set of entry n of kind 1 to 3: that of the first entry with its key, or, where that is n itself, n alone.
+// The set of entry n, which has a key: that of the first entry with its key, or, where that is n itself, n alone.
 fn standard_set(sets: &[[u64; 4]; 256], n: u8, first: u8) -> [u64; 4]
     ensures found { λ r. ⌜ (first < n → value r ≡ setIn (now (sets .entry)) first) ⌝ }
     ensures new { λ r. ⌜ (n ≤ first → value r ≡ single n) ⌝ }
@@ -155,13 +189,13 @@ fn line_of(s: &[u8], i: u8, keys: &[u64; 256], sets: &[[u64; 4]; 256], reps: &[u
         let rep = first_set(sets, i, set);
         return Line { key, set, rep };
     }
-    let rep = first_key(keys, i, key);
+    let rep = first_key(keys, i as u16, key) as u8;
     let set = standard_set(sets, i, rep);
     Line { key, set, rep }
 }
 
-// Fills the first lines of the tables, one for each entry of a good sheet, and leaves the others as they are.
-pub fn tables(s: &[u8], keys: &mut [u64; 256], sets: &mut [[u64; 4]; 256], reps: &mut [u8; 256])
+// Fills the first lines of the tables, one for each entry of a good sheet, and leaves the others as they are. The keys lack what opens a lock.
+fn fill(s: &[u8], keys: &mut [u64; 256], sets: &mut [[u64; 4]; 256], reps: &mut [u8; 256])
     requires { ⌜ refusal (now s) ≡ 0 ⌝ }
     requires { ⌜ Sized (now keys) (now sets) (now reps) ⌝ }
     ensures { λ _. ⌜ Filled (entryAt (now (s .entry))) (countOf (now (s .entry))) (now (keys .entry)) (now (sets .entry)) (now (reps .entry)) (now (keys .exit)) (now (sets .exit)) (now (reps .exit)) ⌝ }
@@ -177,4 +211,45 @@ pub fn tables(s: &[u8], keys: &mut [u64; 256], sets: &mut [[u64; 4]; 256], reps:
         reps[at] = line.rep;
         i += 1;
     }
+}
+
+// The key of entry i with what opens it, if it is a lock: the first entry with the key of the opposite half.
+fn open_key(keys: &[u64; 256], n: u16, i: u8) -> u64
+    requires { ⌜ n ≤ 256 ⌝ }
+    requires { ⌜ numberIn (now keys) i < 2 ^ 40 ⌝ }
+    ensures { λ r. ⌜ r ≡ openIn (now (keys .entry)) n (numberIn (now (keys .entry)) i) ⌝ }
+{
+    let key = keys[i as usize];
+    if kind(key) != 7 {
+        return key;
+    }
+    let half = keys[right(key) as usize];
+    let opener = first_key(keys, n, opposite(half));
+    key + (opener as u64) * 65536
+}
+
+// Puts into the key of each lock of a good sheet what opens it. The opposite half may stand above the lock, so this waits for all keys.
+fn open_locks(s: &[u8], keys: &mut [u64; 256])
+    requires { ⌜ refusal (now s) ≡ 0 ⌝ }
+    requires { ⌜ length (now keys) ≡ 256 ⌝ }
+    requires { ⌜ ((i : ℕ) → i < countOf (now s) → numberIn (now keys) i ≡ keyAt (entryAt (now s)) i) ⌝ }
+    ensures { λ _. ⌜ Opened (entryAt (now (s .entry))) (countOf (now (s .entry))) (now (keys .entry)) (now (keys .exit)) ⌝ }
+{
+    let n = sheet::count(s);
+    let mut i: u16 = 0;
+    while i < n {
+        let key = open_key(keys, n, i as u8);
+        keys[i as usize] = key;
+        i += 1;
+    }
+}
+
+// The tables of a good sheet: the first lines, one for each entry. The other lines are left as they are.
+pub fn tables(s: &[u8], keys: &mut [u64; 256], sets: &mut [[u64; 4]; 256], reps: &mut [u8; 256])
+    requires { ⌜ refusal (now s) ≡ 0 ⌝ }
+    requires { ⌜ Sized (now keys) (now sets) (now reps) ⌝ }
+    ensures { λ _. ⌜ Finished (entryAt (now (s .entry))) (countOf (now (s .entry))) (now (keys .entry)) (now (sets .entry)) (now (reps .entry)) (now (keys .exit)) (now (sets .exit)) (now (reps .exit)) ⌝ }
+{
+    fill(s, keys, sets, reps);
+    open_locks(s, keys);
 }

@@ -1,5 +1,5 @@
 -- One line more: what the tables' first i lines say of entry i.
--- Shown: for a good sheet whose tables are right so far, the line of zero or a sum, and the line of an entry of kind 1 to 3, be it built
+-- Shown: for a good sheet whose tables are right so far, the line of zero or a sum, and the line of any other entry, be it built
 -- like an earlier entry or new. Assumes nothing.
 use mathlib.Core.Path.{_≡_, sym, ap, ap₂, _∙_, subst}
 use mathlib.Core.Logic.{by-cases}
@@ -32,7 +32,7 @@ module _ (e : ℕ → Entry) (n : ℕ) (down : Downward e n) (few : n ≤ 256) (
   line-key : keyOf (numberIn reps) (e i) ≡ keyAt e i
   line-key = key-same (numberIn reps) (repAt e) (e i) (λ j m. right .rep j (down i j h m))
 
-  -- an entry of kind 1 to 3: the first entry with its key is its representative, and has its set; a new one has itself alone
+  -- an entry with a key: the first entry with its key is its representative, and has its set; a new one has itself alone
   line-first : ¬ (keyAt e i ≡ 0) → least (λ j. eqb (numberIn keys j) (keyAt e i)) i ≡ repAt e i
   unfolding firstAlike
   line-first p =
@@ -99,7 +99,7 @@ module _ {s : List ℕ} {i : ℕ} {keys : List ℕ} {sets : List (List ℕ)} {re
       ∙ line-sum (entryAt s) (countOf s) down few narrow i (g .within) keys sets reps (g .right) (sym (key-right p) ∙ z) in
       record { key = key-right p; set = v; rep = t ∙ line-rep (entryAt s) (countOf s) down few narrow i (g .within) keys sets reps (g .right) (value set) v }
 
-  -- kinds 1 to 3
+  -- any other kind
   first-right : {k f : ℕ} → k ≡ keyOf (numberIn reps) (decode r) → ¬ (k ≡ 0) → f ≡ least (λ j. eqb (numberIn keys j) k) i → f ≡ repAt (entryAt s) i
   first-right p z q =
       q ∙ ap (λ (x : ℕ). least (λ j. eqb (numberIn keys j) x) i) (key-right p)

@@ -14,12 +14,12 @@ use Rattle.canonical.proofs.first_key.Statement.{statement}
 use Rattle.canonical.proofs.first_key.Tie as tie
 
 abbrev Inv-loop : tie.InvT-loop
-Inv-loop keys n key i₀ i =
-    (i ≤ n) × ((k : ℕ) → k < i → eqb (numberIn keys k) key ≡ false)
+Inv-loop keys n key k₀ k =
+    (k ≤ n) × ((j : ℕ) → j < k → eqb (numberIn keys j) key ≡ false)
 
 abbrev μ-loop : tie.MeasureT-loop
-μ-loop keys n key i₀ i =
-    n - i
+μ-loop keys n key k₀ k =
+    n - k
 
 loop-holds : tie.Need-loop-holds Inv-loop μ-loop
 loop-holds c = (search needs, λ k l. absurd (omega arith))
@@ -36,17 +36,17 @@ element-copy-out-if1 c = search needs
 returns : tie.Need-returns Inv-loop μ-loop
 returns c = let a = c .before .before .before .before .args in
     let l = c .before .before .before .loop in
-    search-found (λ k. eqb (numberIn (now (a .keys)) k) (a .key)) (a .n) (l .i) (c .before .before .loop-test .taken) (l .inv .1) (eq-eqb _ (a .key) (c .if1 .taken))
+    search-found (λ k. eqb (numberIn (now (a .keys)) k) (a .key)) (a .n) (l .k) (c .before .before .loop-test .taken) (l .inv .1) (eq-eqb _ (a .key) (c .if1 .taken))
 
-add-i : tie.Need-add-i Inv-loop μ-loop
-add-i c = search needs
+add-k : tie.Need-add-k Inv-loop μ-loop
+add-k c = search needs
 
 loop-less : tie.Need-loop-less Inv-loop μ-loop
 loop-less c = search needs
 
 loop-again : tie.Need-loop-again Inv-loop μ-loop
 loop-again c = let l = c .before .before .before .loop in
-    (omega arith, below-more _ (l .i) (l .inv .1) (ne-eqb _ (c .before .before .before .before .args .key) (c .if1 .left)))
+    (omega arith, below-more _ (l .k) (l .inv .1) (ne-eqb _ (c .before .before .before .before .args .key) (c .if1 .left)))
 
 returns-2 : tie.Need-returns-2 Inv-loop μ-loop
 returns-2 c = let a = c .before .before .args in
@@ -63,7 +63,7 @@ first-key-spec =
     mul-if1
     element-copy-out-if1
     returns
-    add-i
+    add-k
     loop-less
     loop-again
     returns-2)

@@ -1,9 +1,13 @@
 -- `canonical::line_of` meets its contract: the laws of a line, with a key and without.
+use native.Mathlib.Omega.{arith}
+use lib.Dec.{eqb}
 use lib.ListN.{getD}
 use mir.Syntax.{w8}
 use mir.Val.{Fits}
 use borrow.Author.Needs.{needs}
 use denote.Ref.{now}
+use Rattle.deduction.proofs.Standard.Least.{least-le}
+use Rattle.canonical.specs.Inner.Tables.{numberIn}
 use Rattle.canonical.proofs.Laws.Line.{Ready, parts-below, items-below, sum-line, standard-line}
 use Rattle.canonical.proofs.line_of.Statement.{statement}
 use Rattle.canonical.proofs.line_of.Tie as tie
@@ -39,6 +43,10 @@ returns c = let b = c .before .before .before in
 first-key-requires : tie.Need-first-key-requires
 first-key-requires c κs = search needs
 
+cast-rep : tie.Need-cast-rep
+cast-rep c = let a = c .before .before .before .before .before .args in
+    omega (arith, c .first-key .ensures, least-le (λ j. eqb (numberIn (now (a .keys)) j) (c .before .before .key-of .result)) (a .i))
+
 standard-set-requires : tie.Need-standard-set-requires
 standard-set-requires c κs = search needs
 
@@ -56,5 +64,6 @@ line-of-spec =
     first-set-requires
     returns
     first-key-requires
+    cast-rep
     standard-set-requires
     returns-2)

@@ -1,99 +1,26 @@
--- `canonical::tables` meets its contract. The loop's invariant: the tables are filled for the entries so far.
-use mathlib.Core.Path.{_≡_, subst}
-use Prim.Native.Nat.{ℕ, _-_, _≤_, _<_}
-use native.Mathlib.Omega.{arith}
+-- `canonical::tables` meets its contract: the lines filled, then what opens a lock put into its key.
+use mathlib.Core.Path.{_∙_}
 use borrow.Author.Needs.{needs}
-use denote.Ref.{now}
-use Rattle.dag.specs.Sheet.{countOf}
-use Rattle.dag.specs.Record.{entryAt}
-use Rattle.dag.proofs.Laws.Good.{good}
-use Rattle.canonical.specs.Inner.Tables.{Filled}
-use Rattle.canonical.proofs.Laws.Tables.{filled-none, filled-more}
 use Rattle.canonical.proofs.tables.Statement.{statement}
 use Rattle.canonical.proofs.tables.Tie as tie
 
-abbrev Inv-loop : tie.InvT-loop
-Inv-loop s keys₀ sets₀ reps₀ n i₀ keys sets reps i =
-    (i ≤ n) × (n ≡ countOf s) × Filled (entryAt s) i keys₀ sets₀ reps₀ keys sets reps
+fill-requires : tie.Need-fill-requires
+fill-requires c κs = search needs
 
-abbrev μ-loop : tie.MeasureT-loop
-μ-loop s keys₀ sets₀ reps₀ n i₀ keys sets reps i =
-    n - i
+open-locks-requires : tie.Need-open-locks-requires
+open-locks-requires c κs = let f = c .before .fill .ensures in
+    (c .before .before .before .before .before .before .pre .0, (f .sized .key, f .right .key))
 
--- an entry's number is a byte
-below : (c : tie.In-loop Inv-loop μ-loop) → c .before .loop .i < 256
-below c = let s = c .before .before .before .before in
-    omega (arith, good (now (s .args .s)) (s .pre .0) .few)
-
-done : (c : tie.After-loop Inv-loop μ-loop) → c .before .loop .i ≡ countOf (now (c .before .before .before .before .args .s))
-done c = omega arith
-
-count-requires : tie.Need-count-requires Inv-loop μ-loop
-count-requires c κs = search needs
-
-loop-holds : tie.Need-loop-holds Inv-loop μ-loop
-loop-holds c = let a = c .before .before .args in
-    (search needs, c .count .ensures, filled-none (entryAt (now (a .s))) (now (a .keys)) (now (a .sets)) (now (a .reps)) (c .before .before .pre .1))
-
-cast-line-of : tie.Need-cast-line-of Inv-loop μ-loop
-cast-line-of c = omega (arith, below c)
-
-line-of-requires : tie.Need-line-of-requires Inv-loop μ-loop
-line-of-requires c κs = let l = c .before .before .before .before .loop in
-    (c .before .before .before .before .before .before .before .pre .0, (omega arith, l .inv .2 .right))
-
-cast-at : tie.Need-cast-at Inv-loop μ-loop
-cast-at c = omega (arith, below (c .before .before .before .before))
-
-mul-keys : tie.Need-mul-keys Inv-loop μ-loop
-mul-keys c = omega (arith, below (c .before .before .before .before .before))
-
-element-write-keys : tie.Need-element-write-keys Inv-loop μ-loop
-element-write-keys c = below (c .before .before .before .before .before)
-
-mul-set : tie.Need-mul-set Inv-loop μ-loop
-mul-set c = omega (arith, below (c .before .before .before .before .before))
-
-element-set-from-set : tie.Need-element-set-from-set Inv-loop μ-loop
-element-set-from-set c = below (c .before .before .before .before .before)
-
-element-write-reps : tie.Need-element-write-reps Inv-loop μ-loop
-element-write-reps c = below (c .before .before .before .before .before)
-
-add-i : tie.Need-add-i Inv-loop μ-loop
-add-i c = omega (arith, below (c .before .before .before .before .before))
-
-loop-less : tie.Need-loop-less Inv-loop μ-loop
-loop-less c = search needs
-
-loop-again : tie.Need-loop-again Inv-loop μ-loop
-loop-again c = let b = c .before .before .before .before .before in
-    let l = b .before .loop in
-    let a = b .before .before .before .before .args in
-    (omega arith, l .inv .1, filled-more (entryAt (now (a .s))) (now (a .keys)) (now (a .sets)) (now (a .reps)) (l .inv .2) (below b) (c .before .line-of .ensures))
-
-returns : tie.Need-returns Inv-loop μ-loop
-returns c = let a = c .before .before .before .before .args in
-    let l = c .before .loop in
-    subst (λ (n : ℕ). Filled (entryAt (now (a .s))) n (now (a .keys)) (now (a .sets)) (now (a .reps)) (l .keys) (l .sets) (l .reps)) (done c) (l .inv .2)
+returns : tie.Need-returns
+returns c = let f = c .before .before .fill .ensures in
+    let o = c .open-locks .ensures in
+    record {
+      right = record { key = o .key; set = f .right .set; rep = f .right .rep };
+      sized = record { key = o .sized; set = f .sized .set; rep = f .sized .rep };
+      keys-kept = λ i h. o .kept i h ∙ f .keys-kept i h;
+      sets-kept = f .sets-kept;
+      reps-kept = f .reps-kept;
+    }
 
 pub tables-spec : {M : Type 1} → statement M
-tables-spec =
-    tie.close
-    (tie.spec
-    Inv-loop
-    μ-loop
-    count-requires
-    loop-holds
-    cast-line-of
-    line-of-requires
-    cast-at
-    mul-keys
-    element-write-keys
-    mul-set
-    element-set-from-set
-    element-write-reps
-    add-i
-    loop-less
-    loop-again
-    returns)
+tables-spec = tie.close (tie.spec fill-requires open-locks-requires returns)

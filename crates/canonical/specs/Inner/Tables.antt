@@ -1,13 +1,17 @@
 -- What the three tables hold: line i has the key, the set of standard entries and the representative of entry i.
--- Defined: `RightLine`, one line of them; `Right`, they are right for the first n entries; `Sized`, the lengths; `Filled`, what filling them does.
+-- Defined: `RightLine`, one line of them; `Right`, they are right for the first n entries; `Sized`, the lengths; `Filled`, what filling them does;
+-- `Opened`, the keys have what opens a lock in them; `openIn`, how it gets there; `Tabled`, the tables as they are read; `Finished`, what
+-- making them does.
 use mathlib.Core.Path.{_≡_}
+use mathlib.Core.Bool.{cond}
 use mathlib.Core.List.{List, []}
-use Prim.Native.Nat.{ℕ, _≤_, _<_}
+use Prim.Native.Nat.{ℕ, _+_, _*_, _≤_, _<_}
+use lib.Dec.{eqb}
 use lib.ListN.{length, getD}
 use Rattle.bitset.specs.Words.{value}
 use Rattle.deduction.specs.Entry.{Entry}
-use Rattle.deduction.specs.Standard.{setAt, repAt}
-use Rattle.canonical.specs.Inner.Key.{keyAt}
+use Rattle.deduction.specs.Standard.{least, setAt, repAt}
+use Rattle.canonical.specs.Inner.Key.{keyAt, keyKind, keyRight, oppositeKey, openKeyAt}
 
 -- a table of sets, as numbers
 abbrev pub setIn : List (List ℕ) → ℕ → ℕ
@@ -38,6 +42,31 @@ pub record Sized (keys : List ℕ) (sets : List (List ℕ)) (reps : List ℕ) : 
 -- the tables after the first n entries were entered: their lines are right, and every other line is as it was
 pub record Filled (e : ℕ → Entry) (n : ℕ) (keys₀ : List ℕ) (sets₀ : List (List ℕ)) (reps₀ keys : List ℕ) (sets : List (List ℕ)) (reps : List ℕ) : Type 0 where
   pub right : Right e n keys sets reps
+  pub sized : Sized keys sets reps
+  pub keys-kept : (i : ℕ) → n ≤ i → getD keys i 0 ≡ getD keys₀ i 0
+  pub sets-kept : (i : ℕ) → n ≤ i → getD sets i [] ≡ getD sets₀ i []
+  pub reps-kept : (i : ℕ) → n ≤ i → getD reps i 0 ≡ getD reps₀ i 0
+
+-- the key with what opens it, where the first n lines have the keys of all halves: a lock's opener is the first with the opposite key of its key's
+unfoldable pub openIn : List ℕ → ℕ → ℕ → ℕ
+openIn keys n key =
+    cond (eqb (keyKind key) 7) (key + least (λ j. eqb (numberIn keys j) (oppositeKey (numberIn keys (keyRight key)))) n * 65536) key
+
+-- the keys of the first n entries, with what opens a lock; every other line is as it was
+pub record Opened (e : ℕ → Entry) (n : ℕ) (keys₀ keys : List ℕ) : Type 0 where
+  pub key : (i : ℕ) → i < n → getD keys i 0 ≡ openKeyAt e n i
+  pub sized : length keys ≡ 256
+  pub kept : (i : ℕ) → n ≤ i → getD keys i 0 ≡ getD keys₀ i 0
+
+-- the tables as they are read: right for the first n entries, the keys with what opens a lock
+pub record Tabled (e : ℕ → Entry) (n : ℕ) (keys : List ℕ) (sets : List (List ℕ)) (reps : List ℕ) : Type 0 where
+  pub key : (i : ℕ) → i < n → getD keys i 0 ≡ openKeyAt e n i
+  pub set : (i : ℕ) → i < n → value (getD sets i []) ≡ setAt e i
+  pub rep : (i : ℕ) → i < n → getD reps i 0 ≡ repAt e i
+
+-- such tables, and every line that no entry has as it was
+pub record Finished (e : ℕ → Entry) (n : ℕ) (keys₀ : List ℕ) (sets₀ : List (List ℕ)) (reps₀ keys : List ℕ) (sets : List (List ℕ)) (reps : List ℕ) : Type 0 where
+  pub right : Tabled e n keys sets reps
   pub sized : Sized keys sets reps
   pub keys-kept : (i : ℕ) → n ≤ i → getD keys i 0 ≡ getD keys₀ i 0
   pub sets-kept : (i : ℕ) → n ≤ i → getD sets i [] ≡ getD sets₀ i []
