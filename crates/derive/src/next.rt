@@ -1,14 +1,15 @@
 // The next step: the least number over all steps that follow. A step's number is head, then rule, then first source, so the least is
 // the one that document 01's order names.
 ghost use mathlib.Core.Path.{_≡_};
+ghost use mathlib.Core.Bool.{cond};
 ghost use Prim.Native.Nat.{_≤_, min};
 ghost use lib.ListN.{length};
 ghost use Rattle.bitset.specs.Words.{value};
 ghost use Rattle.knowledge.specs.Inner.Rows.{rowsOf};
 ghost use Rattle.derive.specs.Bytes.{stepOf};
-ghost use Rattle.deduction.specs.Run.{number};
+ghost use Rattle.deduction.specs.Run.{number, noStep};
 ghost use Rattle.deduction.specs.Step.{step};
-ghost use Rattle.derive.specs.Inner.Search.{offered, openedLeast, bothKnown, builtLeast, lineLeast, searchLeast, stepIn};
+ghost use Rattle.derive.specs.Inner.Search.{offered, openedLeast, bothKnown, builtLeast, lockLeast, lineLeast, searchLeast, secondIn, stepIn};
 use crate::Step;
 
 // Above every step's number: nothing follows.
@@ -41,6 +42,16 @@ fn offer(known: [u64; 4], head: u8, rule: u8, i: u8) -> u32
     number(head, rule, i)
 }
 
+// The same where a test holds.
+fn offer_if(test: bool, known: [u64; 4], head: u8, rule: u8, i: u8) -> u32
+    ensures { λ r. ⌜ r ≡ cond test (offered (value known) head rule i) noStep ⌝ }
+{
+    if test {
+        return offer(known, head, rule, i);
+    }
+    NO_STEP
+}
+
 // What the known entry i gives: a pair its parts, an encryption its message where its key is known.
 fn opened(known: [u64; 4], key: u64, i: u8) -> u32
     ensures { λ r. ⌜ r ≡ openedLeast (value known) key i ⌝ }
@@ -60,7 +71,7 @@ fn opened(known: [u64; 4], key: u64, i: u8) -> u32
     NO_STEP
 }
 
-// Are both parts of a pair or an encryption known?
+// Are both parts of a pair or an encryption of either sort known?
 fn both_known(known: [u64; 4], key: u64) -> bool
     ensures { λ r. ⌜ r ≡ bothKnown (value known) key ⌝ }
 {
@@ -91,10 +102,31 @@ fn built(known: [u64; 4], key: u64, i: u8, summed: bool) -> u32
     NO_STEP
 }
 
+// What a lock offers, entry i: its message where the opposite half of its key is known, if it is known itself; else how it is gained, as a sum or by
+// locking.
+fn of_lock(known: [u64; 4], key: u64, i: u8, summed: bool) -> u32
+    ensures { λ r. ⌜ r ≡ lockLeast (value known) key i summed ⌝ }
+{
+    if bitset::member(known, i) {
+        let open = bitset::has(known, canonical::opener(key));
+        return offer_if(open, known, canonical::left(key), 7, i);
+    }
+    if summed {
+        return number(i, 6, 0);
+    }
+    if both_known(known, key) {
+        return number(i, 8, canonical::left(key));
+    }
+    NO_STEP
+}
+
 // The least step that entry i offers.
 fn offered_by(known: [u64; 4], key: u64, i: u8, summed: bool) -> u32
     ensures { λ r. ⌜ r ≡ lineLeast (value known) key i summed ⌝ }
 {
+    if canonical::kind(key) == 7 {
+        return of_lock(known, key, i, summed);
+    }
     if bitset::member(known, i) {
         return opened(known, key, i);
     }
@@ -139,6 +171,23 @@ fn without_set(head: u8, rule: u8, first: u8, second: u16) -> Step
     }
 }
 
+// The second source of a step by a rule other than the sum: none for a split, the key for an encryption, the opposite half for a lock, the second
+// part of what is built.
+fn second_source(keys: &[u64; 256], head: u8, rule: u8, first: u8) -> u16
+    ensures { λ r. ⌜ r ≡ secondIn (now (keys .entry)) head rule first ⌝ }
+{
+    if rule < 3 {
+        return 65535;
+    }
+    if rule == 3 {
+        return canonical::right(keys[first as usize]) as u16;
+    }
+    if rule == 7 {
+        return canonical::opener(keys[first as usize]);
+    }
+    canonical::right(keys[head as usize]) as u16
+}
+
 // The whole step of a number: its second source from the keys, and for a sum the set of learnt entries used.
 pub fn step_of(
     x: u32,
@@ -153,16 +202,8 @@ pub fn step_of(
     let head = (x / 65536 % 256) as u8;
     let rule = (x / 256 % 256) as u8;
     let first = (x % 256) as u8;
-    if rule < 3 {
-        return without_set(head, rule, first, 65535);
-    }
-    if rule == 3 {
-        let key = canonical::right(keys[first as usize]);
-        return without_set(head, rule, first, key as u16);
-    }
-    if rule < 6 {
-        let right = canonical::right(keys[head as usize]);
-        return without_set(head, rule, first, right as u16);
+    if rule != 6 {
+        return without_set(head, rule, first, second_source(keys, head, rule, first));
     }
     let reduced = knowledge::reduce(rows, len, sets[head as usize]);
     let used = reduced.used;

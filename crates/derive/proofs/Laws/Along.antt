@@ -82,7 +82,7 @@ module _ {s have₀ rows₀ : List ℕ} {used₀ : ℕ} {remainders₀ : List (L
   -- a step is made
   pub along-step : made < budget → front ≤ length out₀ → theory.reached (entryAt s) (goalOf s) (stateOf have rows used) ≡ false → (x : ℕ)
       → x ≡ theory.nextNumber (entryAt s) (countOf s) (stateOf have rows used) → (x ≡ theory.noStep → ⊥)
-      → (t : Step) → t ≡ theory.stepAt (entryAt s) (stateOf have rows used) x → (h v : ℕ) → h ≡ theory.stepAt (entryAt s) (stateOf have rows used) x .head → v ≡ setAt (entryAt s) h
+      → (t : Step) → t ≡ theory.stepAt (entryAt s) (countOf s) (stateOf have rows used) x → (h v : ℕ) → h ≡ theory.stepAt (entryAt s) (countOf s) (stateOf have rows used) x .head → v ≡ setAt (entryAt s) h
       → (have′ rows′ : List ℕ) (used′ : ℕ) (remainders′ : List (List ℕ)) (out′ : List ℕ) → stateOf have′ rows′ used′ ≡ learnAs (stateOf have rows used) h v
       → out′ ≡ take (front + 40 * made) out ++ (stepBytes t ++ drop 40 (drop (front + 40 * made) out)) → Room have′ used′ → SameOutside (8 * used) (8 * used′) rows rows′
       → ((f : ℕ → ℕ) → Remainders f (countOf s) rows used remainders → Remainders f (countOf s) rows′ used′ remainders′) → SameOutside 0 (countOf s) remainders remainders′
@@ -91,7 +91,7 @@ module _ {s have₀ rows₀ : List ℕ} {used₀ : ℕ} {remainders₀ : List (L
   along-step less space unmet x next some t step h v head set have′ rows′ used′ remainders′ out′ state bytes room kept cache others =
       let k = stateOf have rows used in
       let s₁ = stepNext (entryAt s) (countOf s) k in
-      let same : theory.stepAt (entryAt s) k x ≡ s₁ = ap (theory.stepAt (entryAt s) k) next in
+      let same : theory.stepAt (entryAt s) (countOf s) k x ≡ s₁ = ap (theory.stepAt (entryAt s) (countOf s) k) next in
       let learnt : learn (setAt (entryAt s)) k (s₁ .head) ≡ stateOf have′ rows′ used′ =
       ap (learn (setAt (entryAt s)) k) (sym (head ∙ ap (λ (r : Step). r .head) same)) ∙ ap (learnAs k h) (sym set) ∙ sym state in
       let up : used ≤ used′ = ⊎-elim (λ p. le-of-eq (sym p)) (λ p. omega (arith, p)) (learn-len have rows used h v have′ rows′ used′ state) in

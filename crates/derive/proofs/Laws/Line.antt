@@ -1,21 +1,21 @@
 -- What a line of the tables offers, by the outcome of the tests, and the search and the step of a number, case by case.
--- Shown: the answer of each way through `opened`, `built` and `step_of`; a line more in the search. Assumes nothing.
+-- Shown: the answer of each way through `opened`, `built`, `of_lock` and `step_of`; a line more in the search. Assumes nothing.
 use mathlib.Core.Path.{_≡_, refl, sym, ap, ap₂, _∙_}
-use mathlib.Core.Bool.{Bool, true, false, _&&_}
+use mathlib.Core.Bool.{Bool, true, false, cond, _&&_}
 use mathlib.Core.List.{List, []}
 use Prim.Native.Nat.{ℕ, zero, suc, _+_, _≤_, _<_, min}
 use native.Mathlib.Numerals.{add-one}
 use native.Mathlib.Omega.{arith}
 use lib.Dec.{eqb}
 use lib.ListN.{getD}
-use borrow.Author.Tests.{eq-eqb, ne-eqb}
+use borrow.Author.Tests.{eq-eqb, ne-eqb, lt-ltb, le-ltb}
 use Rattle.bitset.specs.Set.{member}
 use Rattle.bitset.specs.Words.{value}
 use Rattle.deduction.specs.Elimination.{Row, reduce}
 use Rattle.deduction.specs.Step.{step, unused}
 use Rattle.deduction.specs.Run.{number, noStep}
-use Rattle.canonical.specs.Inner.Key.{keyKind, keyLeft, keyRight}
-use Rattle.derive.specs.Inner.Search.{offered, openedLeast, bothKnown, builtLeast, lineLeast, searchLeast, lineStep}
+use Rattle.canonical.specs.Inner.Key.{keyKind, keyLeft, keyRight, keyOpener}
+use Rattle.derive.specs.Inner.Search.{offered, openedLeast, bothKnown, builtLeast, lockLeast, lineLeast, searchLeast, secondIn, lineStep}
 
 -- a member test of a part that was read off a key
 pub part-test : {l p : ℕ} {b t : Bool} (g : ℕ) → l ≡ p → b ≡ member g l → b ≡ t → member g p ≡ t
@@ -77,6 +77,25 @@ module _ (g key i : ℕ) {k : ℕ} (said : k ≡ keyKind key) where
     unfolding builtLeast
     built-none f f′ p = rw (f, f′, p)
 
+-- what a lock offers
+module _ (g key i : ℕ) (isSum : Bool) where
+  pub lock-known : {l r x : ℕ} {b t : Bool} → t ≡ member g i → t ≡ true → r ≡ keyOpener key → b ≡ member g r → l ≡ keyLeft key → x ≡ cond b (offered g l 7 i) noStep
+      → x ≡ lockLeast g key i isSum
+  unfolding lockLeast
+  lock-known q t pr m pl p = rw (sym q ∙ t) (p ∙ ap₂ (λ (b : Bool) (h : ℕ). cond b (offered g h 7 i) noStep) (m ∙ ap (member g) pr) pl)
+
+  pub lock-sum : {x : ℕ} {t : Bool} → t ≡ member g i → t ≡ false → isSum ≡ true → x ≡ number i 6 0 → x ≡ lockLeast g key i isSum
+  unfolding lockLeast
+  lock-sum q t s p = rw (sym q ∙ t, s) p
+
+  pub lock-made : {l x : ℕ} {b t : Bool} → t ≡ member g i → t ≡ false → isSum ≡ false → b ≡ bothKnown g key → b ≡ true → l ≡ keyLeft key → x ≡ number i 8 l → x ≡ lockLeast g key i isSum
+  unfolding lockLeast
+  lock-made q t s qb f pl p = rw (sym q ∙ t, s, sym qb ∙ f) (p ∙ ap (number i 8) pl)
+
+  pub lock-none : {b t : Bool} → t ≡ member g i → t ≡ false → isSum ≡ false → b ≡ bothKnown g key → b ≡ false → noStep ≡ lockLeast g key i isSum
+  unfolding lockLeast
+  lock-none q t s qb f = rw (sym q ∙ t, s, sym qb ∙ f)
+
 -- a line more in the search
 module _ (g : ℕ) (keys reps : List ℕ) (remainders : List (List ℕ)) where
   pub search-le : (n : ℕ) → searchLeast g keys reps remainders n ≤ noStep
@@ -95,35 +114,30 @@ module _ (g : ℕ) (keys reps : List ℕ) (remainders : List (List ℕ)) where
     unfolding searchLeast
     search-skip f = rw (add-one i, ne-eqb (getD reps i 0) i f) (omega (arith, search-le i))
 
+-- the second source of a step, by its rule
+module _ (keys : List ℕ) (h r i : ℕ) where
+  pub second-none : r < 3 → unused ≡ secondIn keys h r i
+  unfolding secondIn
+  second-none l = rw (lt-ltb r 3 l)
+
+  pub second-key : {j : ℕ} → 3 ≤ r → r ≡ 3 → j ≡ keyRight (getD keys i 0) → j ≡ secondIn keys h r i
+  unfolding secondIn
+  second-key l p q = rw (le-ltb r 3 l, eq-eqb r 3 p) q
+
+  pub second-opener : {j : ℕ} → 3 ≤ r → ¬ (r ≡ 3) → r ≡ 7 → j ≡ keyOpener (getD keys i 0) → j ≡ secondIn keys h r i
+  unfolding secondIn
+  second-opener l f p q = rw (le-ltb r 3 l, ne-eqb r 3 f, eq-eqb r 7 p) q
+
+  pub second-built : {j : ℕ} → 3 ≤ r → ¬ (r ≡ 3) → ¬ (r ≡ 7) → j ≡ keyRight (getD keys h 0) → j ≡ secondIn keys h r i
+  unfolding secondIn
+  second-built l f f′ q = rw (le-ltb r 3 l, ne-eqb r 3 f, ne-eqb r 7 f′) q
+
 -- the step of a number, by its rule
-module _ (keys : List ℕ) (sets : List (List ℕ)) (rows : List Row) (h i : ℕ) where
-  pub step-projection : (r : ℕ) {u : ℕ} → r < 3 → u ≡ 0 → step h r i unused u ≡ lineStep keys sets rows h r i
+module _ (keys : List ℕ) (sets : List (List ℕ)) (rows : List Row) (h r i : ℕ) where
+  pub step-other : {j : ℕ} → ¬ (r ≡ 6) → j ≡ secondIn keys h r i → step h r i j 0 ≡ lineStep keys sets rows h r i
   unfolding lineStep
-  step-projection zero l q = ap (step h 0 i unused) q
-  step-projection (suc zero) l q = ap (step h 1 i unused) q
-  step-projection (suc (suc zero)) l q = ap (step h 2 i unused) q
-  step-projection (suc (suc (suc r))) l q = absurd (omega arith)
+  step-other f q = rw (ne-eqb r 6 f) (ap (λ (j : ℕ). step h r i j 0) q)
 
-  pub step-decrypt : (r : ℕ) {j u : ℕ} → r ≡ 3 → j ≡ keyRight (getD keys i 0) → u ≡ 0 → step h r i j u ≡ lineStep keys sets rows h r i
+  pub step-sum : {u : ℕ} → r ≡ 6 → u ≡ reduce rows (value (getD sets h [])) .used → step h 6 unused unused u ≡ lineStep keys sets rows h r i
   unfolding lineStep
-  step-decrypt r p pj q = rw p (ap₂ (step h 3 i) pj q)
-
-  pub step-built : (r : ℕ) {j u : ℕ} → 3 ≤ r → ¬ (r ≡ 3) → r < 6 → j ≡ keyRight (getD keys h 0) → u ≡ 0 → step h r i j u ≡ lineStep keys sets rows h r i
-  unfolding lineStep
-  step-built zero l f m pj q = absurd (omega arith)
-  step-built (suc zero) l f m pj q = absurd (omega arith)
-  step-built (suc (suc zero)) l f m pj q = absurd (omega arith)
-  step-built (suc (suc (suc zero))) l f m pj q = absurd (f refl)
-  step-built (suc (suc (suc (suc zero)))) l f m pj q = ap₂ (step h 4 i) pj q
-  step-built (suc (suc (suc (suc (suc zero))))) l f m pj q = ap₂ (step h 5 i) pj q
-  step-built (suc (suc (suc (suc (suc (suc r)))))) l f m pj q = absurd (omega arith)
-
-  pub step-sum : (r : ℕ) {u : ℕ} → 6 ≤ r → u ≡ reduce rows (value (getD sets h [])) .used → step h 6 unused unused u ≡ lineStep keys sets rows h r i
-  unfolding lineStep
-  step-sum zero l q = absurd (omega arith)
-  step-sum (suc zero) l q = absurd (omega arith)
-  step-sum (suc (suc zero)) l q = absurd (omega arith)
-  step-sum (suc (suc (suc zero))) l q = absurd (omega arith)
-  step-sum (suc (suc (suc (suc zero)))) l q = absurd (omega arith)
-  step-sum (suc (suc (suc (suc (suc zero))))) l q = absurd (omega arith)
-  step-sum (suc (suc (suc (suc (suc (suc r)))))) l q = ap (step h 6 unused unused) q
+  step-sum p q = rw (eq-eqb r 6 p) (ap (step h 6 unused unused) q)

@@ -16,7 +16,7 @@ pub record Ended : Type 0 where
   pub final : Knowledge
 
 unfoldable pub stepNext : (ℕ → Entry) → ℕ → Knowledge → Step
-stepNext e n k = stepAt e k (nextNumber e n k)
+stepNext e n k = stepAt e n k (nextNumber e n k)
 
 unfoldable pub stopped : (ℕ → Entry) → ℕ → ℕ → Knowledge → Ended
 stopped e n goal k =

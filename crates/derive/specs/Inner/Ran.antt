@@ -10,7 +10,7 @@ use Rattle.deduction.specs.Run as theory
 use Rattle.dag.specs.Sheet.{countOf, goalOf}
 use Rattle.dag.specs.Record.{entryAt}
 use Rattle.dag.specs.Refusal.{refusal}
-use Rattle.canonical.specs.Inner.Tables.{Right, Sized}
+use Rattle.canonical.specs.Inner.Tables.{Sized, Tabled}
 use Rattle.knowledge.specs.Inner.Rows.{SameOutside, Remainders}
 use Rattle.knowledge.specs.Inner.State.{stateOf, Room}
 use Rattle.derive.specs.Bytes.{stepsBytes}
@@ -29,7 +29,7 @@ endAs v made known len = record { verdict = v; made = made; known = known; len =
 
 pub record Ready (s keys : List ℕ) (sets : List (List ℕ)) (reps known rows : List ℕ) (len : ℕ) (remainders : List (List ℕ)) (budget front : ℕ) (out : List ℕ) : Type 0 where
   pub good : refusal s ≡ 0
-  pub right : Right (entryAt s) (countOf s) keys sets reps
+  pub right : Tabled (entryAt s) (countOf s) keys sets reps
   pub sized : Sized keys sets reps
   pub words : length rows ≡ 2048
   pub lines : length remainders ≡ 256
