@@ -1,2 +1,3 @@
 pub mod Laws
 pub mod Public
+pub mod Halves

@@ -1,9 +1,9 @@
 -- What a reader may conclude of the start.
 -- Shown: `atom-head`, an atom's head is the same atom; `public-every`, the head of every public atom on the sheet is listed; `public-only`, nothing else
--- is; `public-rising`, in rising entry order, so none twice; `public-number`, the whole number decides, in a short record and a long one; `public-start`, `public-gained`, at every cut its head and its term are gained at the
+-- is; `public-rising`, in rising entry order, so none twice; `public-number`, the whole number decides, in a short record and a long one; `half-not-public`, a half is never listed; `public-start`, `public-gained`, at every cut its head and its term are gained at the
 -- start; `start-without`, a sheet without public atoms starts from its heard messages alone. Assumes nothing.
 use mathlib.Core.Path.{_≡_, refl, sym, ap, ap₂, _∙_, subst}
-use mathlib.Core.Bool.{Bool, true, false, _&&_, cond}
+use mathlib.Core.Bool.{Bool, true, false, true≢false, _&&_, cond}
 use mathlib.Core.List.{List, [], _∷_, _++_, map, append-nil, List·Memᴰ, List·Memᴰ·head, List·Memᴰ·tail, List·Memᴰ·not-nil, List·Memᴰ·append-cases, List·Memᴰ·eq-of-singleton, Memᴰ·append-left, Memᴰ·append-right, Memᴰ·map, Memᴰ·cast}
 use mathlib.Core.Logic.{⊎-elim, by-cases}
 use Prim.Native.Nat.{ℕ, zero, suc, _<_}
@@ -13,11 +13,11 @@ use borrow.Author.Tests.{eqb-true, eq-eqb, lt-ltb}
 use lib.Dec.{eqb, ltb}
 use lib.ListN.{length, getD, length-append, List·getD-append}
 use lib.Seq.{getD-append-seam}
-use Rattle.deduction.specs.Term.{Term, 𝟎, atom}
-use Rattle.deduction.specs.Entry.{Entry, Zero, Atom, Pair, Enc, Sum, Downward, build, terms, termAt}
-use Rattle.deduction.specs.Standard.{Shape, shape, setAt, repAt}
+use Rattle.deduction.specs.Term.{Side, Term, 𝟎, atom}
+use Rattle.deduction.specs.Entry.{Entry, Zero, Atom, Pair, Enc, Sum, Half, Aenc, Downward, build, terms, termAt}
+use Rattle.deduction.specs.Standard.{Shape, halfKind, shape, setAt, repAt}
 use Rattle.deduction.proofs.Standard.{rep-le, rep-rep}
-use Rattle.deduction.proofs.Standard.First.{both-true, shapeAt, first-shape}
+use Rattle.deduction.proofs.Standard.First.{both-true, shapeAt, half-kind, first-shape}
 use Rattle.deduction.proofs.Standard.Members.{rep-first}
 use Rattle.dag.specs.Sheet.{countOf, traceOf}
 use Rattle.dag.specs.Record.{kindOf, atomOf, decode, entryAt}
@@ -35,6 +35,8 @@ shape-atom s (Atom a) p = refl
 shape-atom s (Pair l r) p = absurd (omega (arith, p))
 shape-atom s (Enc m k) p = absurd (omega (arith, p))
 shape-atom s (Sum items) p = absurd (omega (arith, p))
+shape-atom s (Half x a) p = absurd (⊎-elim (λ (q : halfKind x ≡ 5). omega arith) (λ (q : halfKind x ≡ 6). omega arith) (half-kind x))
+shape-atom s (Aenc m k) p = absurd (omega (arith, p))
 
 -- a list that rises, and a number above all of it
 rising-more : (es : List ℕ) (n : ℕ) → ((i : ℕ) → List·Memᴰ i es → i < n) → ((k l : ℕ) → k < l → l < length es → getD es k 0 < getD es l 0)
@@ -134,6 +136,11 @@ module _ (e : ℕ → Entry) where
 pub public-number : (r : List ℕ) → kindOf r ≡ 1 → isPublic (decode r) ≡ ltb (atomOf r) 256
 unfolding isPublic
 public-number r p = ap isPublic (kind-atom r p)
+
+-- "neither is public knowledge": a half is never listed, whatever its number
+pub half-not-public : (e : ℕ → Entry) (n i : ℕ) (s : Side) (a : ℕ) → e i ≡ Half s a → ¬ (List·Memᴰ i (publicHeads e n))
+unfolding isPublic
+half-not-public e n i s a p m = true≢false (sym (public-only e n i m .1) ∙ ap isPublic p)
 
 module _ (s : List ℕ) (ok : refusal s ≡ 0) where
   -- "A stranger knows them without listening": at every cut, 0 too, its head is gained

@@ -9,18 +9,20 @@ use mathlib.Core.Bool.{Bool, false, _&&_, cond}
 use mathlib.Core.List.{List, [], _∷_, _++_, map}
 use lib.Dec.{eqb, ltb}
 use Rattle.deduction.specs.Term.{Term}
-use Rattle.deduction.specs.Entry.{Entry, Zero, Atom, Pair, Enc, Sum, termAt}
+use Rattle.deduction.specs.Entry.{Entry, Zero, Atom, Pair, Enc, Sum, Half, Aenc, termAt}
 use Rattle.deduction.specs.Standard.{repAt}
 use Rattle.dag.specs.Sheet.{countOf, traceOf}
 use Rattle.dag.specs.Record.{entryAt}
 
--- "atoms 0 to 255": no other kind of entry is one, zero neither
+-- "atoms 0 to 255": no other kind of entry is one, zero neither, and of the halves "neither is public knowledge"
 unfoldable pub isPublic : Entry → Bool
 isPublic Zero = false
 isPublic (Atom a) = ltb a 256
 isPublic (Pair l r) = false
 isPublic (Enc m k) = false
 isPublic (Sum items) = false
+isPublic (Half s a) = false
+isPublic (Aenc m k) = false
 
 -- those among the first n entries, "in rising entry order". One that stands again is gained once, as its head, so that heads alone are listed
 unfoldable pub publicHeads : (ℕ → Entry) → ℕ → List ℕ

@@ -14,35 +14,41 @@ use borrow.Author.Tests.{lt-ltb, le-ltb, le-leb}
 use lib.Dec.{eqb}
 use lib.ListN.{length, getD, set, take, length-set}
 use lib.Seq.{take-suc-set, getD-take, length-take-le}
-use Rattle.deduction.specs.Entry.{Entry, Zero, Atom, Pair, Enc, Sum}
+use Rattle.deduction.specs.Entry.{Entry, Zero, Atom, Pair, Enc, Sum, Half, Aenc}
 use Rattle.deduction.specs.Standard.{repAt}
 use Rattle.deduction.proofs.Standard.{rep-le}
 use Rattle.dag.specs.Sheet.{countOf, traceLength, traceAt, traceOf, listed}
 use Rattle.dag.specs.Record.{entryAt}
 use Rattle.dag.specs.Refusal.{refusal}
 use Rattle.dag.proofs.Laws.Good.{good}
-use Rattle.canonical.specs.Inner.Key.{keyOf}
+use Rattle.canonical.specs.Inner.Key.{keyOf, openerOf, openKeyAt}
+use Rattle.canonical.proofs.Laws.Opener.{half-range}
 use Rattle.start.specs.Start.{isPublic, publicHeads, startEntries, startHeads}
 use Rattle.start.specs.Inner.State.{publicKey, Keyed}
 use Rattle.start.proofs.Public.{public-only, public-own}
 use Rattle.start.proofs.Laws.Lists.{getD-member}
 
--- a key tells whether its entry is a public atom
-pub key-public : (rep : ℕ → ℕ) (d : Entry) → publicKey (keyOf rep d) ≡ isPublic d
-unfolding keyOf isPublic
-key-public rep Zero = refl
-key-public rep (Atom a) =
-    ap₂ _&&_ (le-leb (2 ^ 32) (2 ^ 32 + a) (omega arith))
-    (by-cases (decLt a 256) (λ h. lt-ltb (2 ^ 32 + a) (2 ^ 32 + 256) (omega arith) ∙ sym (lt-ltb a 256 h)) (λ h. le-ltb (2 ^ 32 + a) (2 ^ 32 + 256) (omega arith) ∙ sym (le-ltb a 256 (omega arith))))
-key-public rep (Pair l r) = ap₂ _&&_ (le-leb (2 ^ 32) (2 * 2 ^ 32 + rep l * 256 + rep r) (omega arith)) (le-ltb (2 * 2 ^ 32 + rep l * 256 + rep r) (2 ^ 32 + 256) (omega arith))
-key-public rep (Enc m k) = ap₂ _&&_ (le-leb (2 ^ 32) (3 * 2 ^ 32 + rep m * 256 + rep k) (omega arith)) (le-ltb (3 * 2 ^ 32 + rep m * 256 + rep k) (2 ^ 32 + 256) (omega arith))
-key-public rep (Sum items) = refl
+-- a key tells whether its entry is a public atom: with what opens a lock or without, no other key is as low as an atom's, but zero's
+other : (K : ℕ) → 2 * 2 ^ 32 ≤ K → publicKey K ≡ false
+other K h = ap₂ _&&_ (le-leb (2 ^ 32) K (omega arith)) (le-ltb K (2 ^ 32 + 256) (omega arith))
+
+pub key-public : (rep : ℕ → ℕ) (e : ℕ → Entry) (n : ℕ) (d : Entry) (K : ℕ) → K ≡ keyOf rep d + openerOf e n d * 65536 → publicKey K ≡ isPublic d
+unfolding keyOf openerOf isPublic
+key-public rep e n Zero K q = ap publicKey q
+key-public rep e n (Atom a) K q = ap publicKey q
+    ∙ ap₂ _&&_ (le-leb (2 ^ 32) (2 ^ 32 + a + 0 * 65536) (omega arith))
+    (by-cases (decLt a 256) (λ h. lt-ltb (2 ^ 32 + a + 0 * 65536) (2 ^ 32 + 256) (omega arith) ∙ sym (lt-ltb a 256 h)) (λ h. le-ltb (2 ^ 32 + a + 0 * 65536) (2 ^ 32 + 256) (omega arith) ∙ sym (le-ltb a 256 (omega arith))))
+key-public rep e n (Pair l r) K q = other K (omega arith)
+key-public rep e n (Enc m k) K q = other K (omega arith)
+key-public rep e n (Sum items) K q = ap publicKey q
+key-public rep e n (Half s a) K q = other K (omega (arith, half-range s))
+key-public rep e n (Aenc m k) K q = other K (omega (arith, q))
 
 -- what the tables say of entry i
 pub head-test : (s keys reps : List ℕ) → Keyed s keys → ((i : ℕ) → i < countOf s → getD reps i 0 ≡ repAt (entryAt s) i) → (i : ℕ) → i < countOf s
     → (publicKey (getD keys i 0) && eqb (getD reps i 0) i) ≡ (isPublic (entryAt s i) && eqb (repAt (entryAt s) i) i)
 head-test s keys reps keyed rep i h =
-    ap₂ (λ (k r : ℕ). publicKey k && eqb r i) (keyed i h) (rep i h) ∙ ap (λ (b : Bool). b && eqb (repAt (entryAt s) i) i) (key-public (repAt (entryAt s)) (entryAt s i))
+    ap₂ (λ (k r : ℕ). publicKey k && eqb r i) (keyed i h) (rep i h) ∙ ap (λ (b : Bool). b && eqb (repAt (entryAt s) i) i) (key-public (repAt (entryAt s)) (entryAt s) (countOf s) (entryAt s i) (openKeyAt (entryAt s) (countOf s) i) refl)
 
 -- behind what stood in the list stand the public atoms among the first i entries
 pub record Listed (e : ℕ → Entry) (front : List ℕ) (at i : ℕ) (list : List ℕ) (end : ℕ) : Type 0 where

@@ -12,8 +12,8 @@ use Rattle.deduction.specs.Standard.{setAt, repAt}
 use Rattle.dag.specs.Sheet.{countOf, traceLength}
 use Rattle.dag.specs.Record.{entryAt}
 use Rattle.dag.specs.Refusal.{refusal}
-use Rattle.canonical.specs.Inner.Key.{keyAt}
-use Rattle.canonical.specs.Inner.Tables.{Right}
+use Rattle.canonical.specs.Inner.Key.{openKeyAt}
+use Rattle.canonical.specs.Inner.Tables.{Tabled}
 
 -- a public atom's key: an atom's key is 2 ^ 32 and its number
 abbrev pub publicKey : ℕ → Bool
@@ -21,7 +21,7 @@ publicKey k = leb (2 ^ 32) k && ltb k (2 ^ 32 + 256)
 
 -- the table has the keys of a sheet's entries
 abbrev pub Keyed : List ℕ → List ℕ → Type 0
-Keyed s keys = (i : ℕ) → i < countOf s → getD keys i 0 ≡ keyAt (entryAt s) i
+Keyed s keys = (i : ℕ) → i < countOf s → getD keys i 0 ≡ openKeyAt (entryAt s) (countOf s) i
 
 -- the table has the representatives of a good sheet's entries, and the list has room for heads from place `at` on
 pub record Listing (s reps list : List ℕ) (at : ℕ) : Type 0 where
@@ -44,6 +44,6 @@ pub record Hearing (s list : List ℕ) (len : ℕ) (sets remainders : List (List
 pub record Started (s : List ℕ) (cut : ℕ) (keys : List ℕ) (sets : List (List ℕ)) (reps : List ℕ) (remainders : List (List ℕ)) : Type 0 where
   pub good : refusal s ≡ 0
   pub within : cut ≤ traceLength s
-  pub right : Right (entryAt s) (countOf s) keys sets reps
+  pub right : Tabled (entryAt s) (countOf s) keys sets reps
   pub lines : length remainders ≡ 256
   pub fresh : (i : ℕ) → i < countOf s → value (getD remainders i []) ≡ setAt (entryAt s) i
