@@ -1,5 +1,6 @@
 pub mod Laws
 pub mod Card
+pub mod Locks
 pub mod Unique
 pub mod Reading
 pub mod Refuted

@@ -1,37 +1,39 @@
 -- Wrong answers and wrong ladders on small sheets, proved not to meet the demands or not to pass, whatever the buffers hold. Each would pass a weaker definition.
 -- Shown: on sheet A a rung too many, a rung missing, out of reach for a derivable goal, reached beyond the budget, a copied rung, a head too many or
 -- too few in the gained set; a wrong source and a missed goal in the replay; out of reach before the last rung; a public atom out of reach, atom 256
--- reached, a public atom gained by its own number, or after the heard messages; other used sets and remainders. By computation. Assumes nothing.
+-- reached, a public atom gained by its own number, or after the heard messages; other used sets and remainders; locks opened by another half or by none,
+-- unlock ahead of sum, the sources of a lock exchanged. By computation. Assumes nothing.
 use mathlib.Core.Path.{_≡_, refl, sym, ap, ap₂, _∙_, subst}
 use mathlib.Core.Bool.{true, false, true≢false}
-use mathlib.Core.Logic.{inl, inr, _↔_}
+use mathlib.Core.Logic.{_⊎_, inl, inr, ⊎-elim, _↔_}
 use mathlib.Core.List.{List, [], _∷_, _++_, map, List·Memᴰ, List·Memᴰ·head, List·Memᴰ·not-nil, List·Memᴰ·cases-cons}
 use Prim.Native.Nat.{ℕ, zero, suc, _+_, _≤_, _<_}
 use native.Mathlib.Omega.{arith}
 use lib.ListN.{length, getD}
 use Rattle.bitset.specs.Set.{member, insert, highest, leading}
-use Rattle.deduction.specs.Term.{Term, enc, _≈_}
+use Rattle.deduction.specs.Term.{Side, private, public, opposite, Term, enc, half, aenc, _≈_}
 use Rattle.deduction.specs.Derivation.{Holds}
 use Rattle.deduction.specs.Entry.{parts, terms, termAt, build}
-use Rattle.deduction.specs.Standard.{shape, alike, least, xorAll, firstAlike, standardSet, buildSet, sets, setAt, repAt}
+use Rattle.deduction.specs.Standard.{halfKind, shape, alike, least, xorAll, firstAlike, standardSet, buildSet, sets, setAt, repAt}
 use Rattle.deduction.specs.Elimination.{take-off, reduceFrom, reduce, addRow, learnAs, learnAll, nothing}
 use Rattle.deduction.specs.Step.{Step, step, unused}
 use Rattle.deduction.specs.Course.{Verdict, derivable, underivable, exhausted}
 use Rattle.deduction.specs.Replay.{Replays, next}
-use Rattle.deduction.specs.Run.{knowledge, offer, opened, built, offers, allOffers, leastOf, isSumOf, nextNumber, secondPart, expand, stepAt, after, reached, nextStep, goesOn, ended, run}
+use Rattle.deduction.specs.Run.{isHalf, opener, anyHalf, knowledge, offer, opened, built, offers, allOffers, leastOf, isSumOf, nextNumber, secondPart, expand, stepAt, after, reached, nextStep, goesOn, ended, run}
 use Rattle.deduction.proofs.Standard.{rep-equal}
-use Rattle.deduction.proofs.Distinct.{enc-parts}
+use Rattle.deduction.proofs.Distinct.{half-same, enc-parts, aenc-parts}
 use Rattle.deduction.proofs.Steps.Replay.{endState, end-exact, replays-end}
-use Rattle.deduction.proofs.Steps.Fields.{right-decrypt}
+use Rattle.deduction.proofs.Steps.Fields.{right-decrypt, right-adecrypt}
 use Rattle.dag.specs.Sheet.{numberAt, traceLength, beginAt, listed}
 use Rattle.dag.specs.Record.{entryAt, fits, atomOf, decodeAs}
-use Rattle.dag.specs.Refusal.{when, orElse, first, equal, anyFrom, noSheet, badCount, shortList, badPair, badPairs, badRecord, badRecords, notListed, refusal}
+use Rattle.dag.specs.Refusal.{when, orElse, first, equal, anyFrom, noSheet, badCount, shortList, badPair, badPairs, badRecord, wrongHalf, badRecordAt, badRecords, notListed, refusal}
 use Rattle.dag.proofs.Laws.Good.{good}
 use Rattle.start.specs.Start.{isPublic, publicHeads, startEntries, startHeads, startTerms}
 use Rattle.verdict.specs.Buffer.{gainedIn, usedIn, remainderIn, stepsIn}
 use Rattle.verdict.specs.Demands.{verdictCode, Passes, Meets}
 use Rattle.verdict.specs.Answer.{outcomeOf, missingAs, missingOf}
 use Rattle.verdict.specs.Card.{head, sheetA, sheet255, sheet256, sheetTwice, sheetMasked, sheetPad, sheetOther, sheetBelow, sheetDrawn, sumStep, openStep, unmaskStep}
+use Rattle.verdict.specs.Locks.{sheetPublic, sheetShut, sheetBoth, sheetMade}
 use Rattle.verdict.proofs.Unique.{as-run, answer-run, known-run, missing-run}
 
 -- An atom and zero, nothing heard, the atom as goal: it is out of reach after one rung, the sum of nothing
@@ -47,8 +49,14 @@ runs : Runs sheetA 3 256 (2 ∷ 4 ∷ 1 ∷ []) (sumStep ∷ openStep ∷ []) de
     × Runs sheetA 2 256 (2 ∷ 4 ∷ []) [] underivable × Runs sheetZ 0 256 [] (step 1 6 unused unused 0 ∷ []) underivable
     × Runs sheet255 0 0 (0 ∷ []) [] derivable × Runs sheet256 0 0 [] [] underivable × Runs sheetTwice 0 0 (0 ∷ []) [] derivable
     × Runs sheetMasked 3 256 (1 ∷ 0 ∷ 2 ∷ 4 ∷ []) (unmaskStep ∷ []) derivable
-unfolding outcomeOf refusal noSheet badCount shortList badPair badPairs badRecord badRecords notListed when orElse first equal anyFrom fits atomOf decodeAs numberAt beginAt listed parts shape alike least xorAll firstAlike standardSet buildSet sets setAt repAt isPublic publicHeads take-off reduceFrom reduce addRow learnAs learnAll nothing knowledge offer opened built offers allOffers leastOf isSumOf nextNumber secondPart expand stepAt after reached nextStep goesOn ended run member insert highest leading
+    × Runs sheetPublic 2 256 (3 ∷ 2 ∷ []) (step 0 7 3 2 0 ∷ []) derivable × Runs sheetShut 3 256 (3 ∷ 1 ∷ 2 ∷ []) [] underivable
+    × Runs sheetBoth 4 256 (3 ∷ 2 ∷ 5 ∷ 4 ∷ []) (step 0 6 unused unused 48 ∷ []) derivable × Runs sheetMade 2 256 (0 ∷ 1 ∷ []) (step 2 8 0 1 0 ∷ []) derivable
+unfolding outcomeOf refusal noSheet badCount shortList badPair badPairs badRecord wrongHalf badRecordAt badRecords notListed when orElse first equal anyFrom fits atomOf decodeAs numberAt beginAt listed parts halfKind opposite shape alike least xorAll firstAlike standardSet buildSet sets setAt repAt isPublic publicHeads take-off reduceFrom reduce addRow learnAs learnAll nothing isHalf opener anyHalf knowledge offer opened built offers allOffers leastOf isSumOf nextNumber secondPart expand stepAt after reached nextStep goesOn ended run member insert highest leading
 runs = (
+  (refl, omega arith, refl, refl, refl),
+  (refl, omega arith, refl, refl, refl),
+  (refl, omega arith, refl, refl, refl),
+  (refl, omega arith, refl, refl, refl),
   (refl, omega arith, refl, refl, refl),
   (refl, omega arith, refl, refl, refl),
   (refl, omega arith, refl, refl, refl),
@@ -120,13 +128,31 @@ module _ (old out : List ℕ) where
   pub drawn-late : {answer : ℕ} (m : Meets sheetMasked 3 256 old out answer) → ¬ (stepsIn out (m .count) ≡ step 3 6 unused unused 21 ∷ [])
   drawn-late m p = omega (arith, ap (λ (l : List Step). getD l 0 sumStep .set) (sym (only-steps (runs .7) m) ∙ p))
 
+  -- a lock whose opposite half is known isn't shut, and its key isn't what opens it
+  pub shut-for-open : (k : ℕ) → ¬ Meets sheetPublic 2 256 old out (2000 + k)
+  shut-for-open k m = omega (arith, only-answer (runs .8) m)
+
+  pub key-for-half : {answer : ℕ} (m : Meets sheetPublic 2 256 old out answer) → ¬ (stepsIn out (m .count) ≡ step 0 7 3 1 0 ∷ [])
+  key-for-half m p = omega (arith, ap (λ (l : List Step). getD l 0 sumStep .second) (sym (only-steps (runs .8) m) ∙ p))
+
+  -- the same half and the opposite side of another pair don't open
+  pub open-for-shut : (k : ℕ) → k < 1000 → ¬ Meets sheetShut 3 256 old out (1000 + k)
+  open-for-shut k l m = omega (arith, only-answer (runs .9) m)
+
+  -- unlock where the sum comes first; the half before the message in the sources of a lock
+  pub unlock-for-sum : {answer : ℕ} (m : Meets sheetBoth 4 256 old out answer) → ¬ (stepsIn out (m .count) ≡ step 0 7 3 2 0 ∷ [])
+  unlock-for-sum m p = omega (arith, ap (λ (l : List Step). getD l 0 sumStep .rule) (sym (only-steps (runs .10) m) ∙ p))
+
+  pub lock-exchanged : {answer : ℕ} (m : Meets sheetMade 2 256 old out answer) → ¬ (stepsIn out (m .count) ≡ step 2 8 1 0 0 ∷ [])
+  lock-exchanged m p = omega (arith, ap (λ (l : List Step). getD l 0 sumStep .first) (sym (only-steps (runs .11) m) ∙ p))
+
 -- what is missing on a sheet, by the sum test
 abbrev Lacks : List ℕ → ℕ → ℕ → ℕ → ℕ → Type 0
 Lacks s cut budget used remainder =
     (refusal s ≡ 0) × (cut ≤ traceLength s) × (missingOf s cut budget .used ≡ used) × (missingOf s cut budget .remainder ≡ remainder)
 
 lacks : Lacks sheetPad 1 256 4 1 × Lacks sheetOther 1 256 4 1 × Lacks sheetBelow 1 256 4 9 × Lacks sheetDrawn 3 256 3 8 × Lacks sheetA 3 0 0 0
-unfolding missingAs missingOf outcomeOf refusal noSheet badCount shortList badPair badPairs badRecord badRecords notListed when orElse first equal anyFrom fits atomOf decodeAs numberAt beginAt listed parts shape alike least xorAll firstAlike standardSet buildSet sets setAt repAt isPublic publicHeads take-off reduceFrom reduce addRow learnAs learnAll nothing knowledge offer opened built offers allOffers leastOf isSumOf nextNumber secondPart expand stepAt after reached nextStep goesOn ended run member insert highest leading
+unfolding missingAs missingOf outcomeOf refusal noSheet badCount shortList badPair badPairs badRecord wrongHalf badRecordAt badRecords notListed when orElse first equal anyFrom fits atomOf decodeAs numberAt beginAt listed parts halfKind opposite shape alike least xorAll firstAlike standardSet buildSet sets setAt repAt isPublic publicHeads take-off reduceFrom reduce addRow learnAs learnAll nothing isHalf opener anyHalf knowledge offer opened built offers allOffers leastOf isSumOf nextNumber secondPart expand stepAt after reached nextStep goesOn ended run member insert highest leading
 lacks = (
   (refl, omega arith, refl, refl),
   (refl, omega arith, refl, refl),
@@ -176,7 +202,7 @@ unfolding fits atomOf decodeAs numberAt listed isPublic publicHeads termAt terms
 replay-A = (refl, refl)
 
 own-head : (i : ℕ) → i < 5 → repAt (entryAt sheetA) i ≡ i
-unfolding fits atomOf decodeAs numberAt shape alike least xorAll firstAlike standardSet buildSet sets setAt repAt listed
+unfolding fits atomOf decodeAs numberAt halfKind opposite shape alike least xorAll firstAlike standardSet buildSet sets setAt repAt listed
 own-head zero l = refl
 own-head (suc zero) l = refl
 own-head (suc (suc zero)) l = refl
@@ -224,3 +250,32 @@ source-wrong out p (end, r, h) = go (subst (λ (ss : List Step). Replays (termAt
     go (next x (next y z)) =
         let q = subst (λ (u : Term). u ≈ enc (termAt (entryAt sheetA) 3) (termAt (entryAt sheetA) 1)) (replay-A .1) (right-decrypt (termAt (entryAt sheetA)) 5 y refl) in
         omega (arith, apart 0 1 (omega arith) (omega arith) (enc-parts q .1))
+
+-- the lock and the halves of the sheet on which it stays shut
+replay-shut : (termAt (entryAt sheetShut) 3 ≡ aenc (termAt (entryAt sheetShut) 0) (half public 7)) × (termAt (entryAt sheetShut) 1 ≡ half public 7)
+    × (termAt (entryAt sheetShut) 2 ≡ half private 8)
+unfolding fits atomOf decodeAs numberAt listed termAt terms build
+replay-shut = (refl, refl, refl)
+
+-- a lock opened with the half that it was made with, or with the opposite side of another pair, doesn't replay
+half-opens : (j : ℕ) (y : Side) (b : ℕ) → termAt (entryAt sheetShut) j ≡ half y b → (halfKind y ≡ 6) ⊎ (b ≡ 8)
+    → (out : List ℕ) → stepsIn out 1 ≡ step 0 7 3 j 0 ∷ [] → ¬ Passes sheetShut 3 1 out
+unfolding numberAt halfKind opposite
+half-opens j y b tj other out p (end, r, h) = go (subst (λ (ss : List Step). Replays (termAt (entryAt sheetShut)) 4 (startTerms sheetShut 3) ss end) p r)
+  where
+    apart : (x : Side) (a : ℕ) → half public 7 ≈ half x a → half y b ≈ half (opposite x) a → ⊥
+    apart x a q z =
+        let (sx, ax) = half-same public x 7 a q in let (sy, by) = half-same y (opposite x) b a z in
+        ⊎-elim (λ (k : halfKind y ≡ 6). omega (arith, k, ap halfKind sy, ap (λ (v : Side). halfKind (opposite v)) sx)) (λ (k : b ≡ 8). omega (arith, k, ax, by)) other
+
+    go : {g a : List Term} → Replays (termAt (entryAt sheetShut)) 4 g (step 0 7 3 j 0 ∷ []) a → ⊥
+    go (next v z) =
+        let (x, a, q, w) = right-adecrypt (termAt (entryAt sheetShut)) 4 v refl in
+        apart x a (aenc-parts (subst (λ (u : Term). u ≈ aenc (termAt (entryAt sheetShut) 0) (half x a)) (replay-shut .0) q) .1) (subst (λ (u : Term). u ≈ half (opposite x) a) tj w)
+
+pub same-half-wrong : (out : List ℕ) → stepsIn out 1 ≡ step 0 7 3 1 0 ∷ [] → ¬ Passes sheetShut 3 1 out
+unfolding halfKind
+same-half-wrong = half-opens 1 public 7 (replay-shut .1) (inl refl)
+
+pub other-pair-wrong : (out : List ℕ) → stepsIn out 1 ≡ step 0 7 3 2 0 ∷ [] → ¬ Passes sheetShut 3 1 out
+other-pair-wrong = half-opens 2 private 8 (replay-shut .2) (inr refl)

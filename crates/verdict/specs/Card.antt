@@ -22,7 +22,7 @@ pub record Case : Type 0 where
   pub remainder : ℕ
   pub steps : List Step
 
-case : List ℕ → ℕ → ℕ → ℕ → ℕ → ℕ → ℕ → List Step → Case
+abbrev pub case : List ℕ → ℕ → ℕ → ℕ → ℕ → ℕ → ℕ → List Step → Case
 case s cut budget answer known used remainder steps =
     record { sheet = s; cut = cut; budget = budget; answer = answer; known = known; used = used; remainder = remainder; steps = steps }
 
@@ -142,7 +142,6 @@ abbrev pub unmaskStep : Step
 unmaskStep = step 3 6 unused unused 18
 
 unfoldable pub rows : List Case
-unfolding case
 rows =
     -- the card of sheet A, cut by cut; its goal is what is missing
     case sheetA 0 256 2000 0 0 8 []

@@ -6,7 +6,7 @@ use Rattle.dag.specs.Sheet.{traceLength}
 use Rattle.dag.specs.Refusal.{when, orElse, refusal}
 use Rattle.verdict.specs.Buffer.{front}
 
--- rows 1 to 7, then "8 past the log: cut over h", "9 over budget: budget over 256", "10 no space"; document 02, E5: "Refusal 10 now starts below 96 + 40b
+-- rows 1 to 7 and 12, then "8 past the log: cut over h", "9 over budget: budget over 256", "10 no space"; document 02, E5: "Refusal 10 now starts below 96 + 40b
 -- bytes"
 unfoldable pub refusalOf : List ℕ → ℕ → ℕ → ℕ → ℕ
 refusalOf s cut budget space =

@@ -3,7 +3,7 @@
 use mathlib.Core.Path.{_≡_, refl, sym, ap, ap₂, _∙_, subst}
 use mathlib.Core.Bool.{true}
 use mathlib.Core.Logic.{⊎-elim, _↔_}
-use mathlib.Core.List.{List, _∷_, _++_, map, List·Memᴰ, List·Memᴰ·not-nil, List·Memᴰ·head, List·Memᴰ·cases-cons, List·Memᴰ·append-cases, List·Memᴰ·eq-of-singleton, Memᴰ·append-right, append-assoc}
+use mathlib.Core.List.{List, _++_, map, List·Memᴰ, List·Memᴰ·not-nil, List·Memᴰ·cases-cons, List·Memᴰ·append-cases, List·Memᴰ·eq-of-singleton, append-assoc}
 use Prim.Native.Nat.{ℕ, _+_, _*_, _^_, _≤_, _<_}
 use native.Mathlib.Nat.{le-trans, lt-of-lt-of-le}
 use native.Mathlib.Omega.{arith}
@@ -24,7 +24,7 @@ use Rattle.deduction.specs.Run.{Outcome, knowledge}
 use Rattle.deduction.specs.Replay.{Replays}
 use Rattle.deduction.proofs.Steps.{Heads, Made, made, learnt-steps, learnt-heads, known-set, steps-le, run-enough, run-course, trace-run-replays, trace-underivable-exact, trace-underivable-iff, trace-heads}
 use Rattle.deduction.proofs.Elimination.State.{Learnt}
-use Rattle.deduction.proofs.Steps.Next.{knowledge-learnt}
+use Rattle.deduction.proofs.Steps.Next.{follows-open, knowledge-learnt}
 use Rattle.deduction.proofs.Steps.Drawn.{drawn-known}
 use Rattle.deduction.proofs.Steps.Course.{course-stuck}
 use Rattle.deduction.proofs.Steps.Missing.{missing-found, missing-is, missing-some}
@@ -49,6 +49,8 @@ follows-narrow t n few es below (Follows.second a o k p) = pow-pos 256
 follows-narrow t n few es below (Follows.decrypt o k j p) = pow-pos 256
 follows-narrow t n few es below (Follows.join o k j p) = pow-pos 256
 follows-narrow t n few es below (Follows.encrypt o k j p) = pow-pos 256
+follows-narrow t n few es below (Follows.adecrypt x a o k j p q) = pow-pos 256
+follows-narrow t n few es below (Follows.aencrypt x a o k j p q) = pow-pos 256
 follows-narrow t n few es below (Follows.sum u o d p) = lt-of-lt-of-le (below-members n u (λ j m. below j (drawn-known t n es j (d j m)))) (pow-mono few)
 
 -- so has every step made
@@ -56,16 +58,8 @@ made-narrow : (e : ℕ → Entry) (n : ℕ) → Downward e n → n ≤ 256 → {
 made-narrow e n down few Made.none below s m = absurd (List·Memᴰ·not-nil m)
 made-narrow e n down few (Made.more {es = es} {s = r} next rest) below s m =
     ⊎-elim (λ p. subst Narrow (sym p) (follows-narrow (termAt e) n few es below (next .0)))
-    (λ q. made-narrow e n down few rest (λ i h. ⊎-elim (below i) (λ z. subst (λ (x : ℕ). x < n) (sym (List·Memᴰ·eq-of-singleton z)) (open-below (next .0))) (List·Memᴰ·append-cases es h)) s q)
+    (λ q. made-narrow e n down few rest (λ i h. ⊎-elim (below i) (λ z. subst (λ (x : ℕ). x < n) (sym (List·Memᴰ·eq-of-singleton z)) (follows-open e n (next .0) .0 .0)) (List·Memᴰ·append-cases es h)) s q)
     (List·Memᴰ·cases-cons m)
-  where
-    open-below : {s : Step} → Follows (termAt e) n es s → s .head < n
-    open-below (Follows.first b o k p) = o .0 .0
-    open-below (Follows.second a o k p) = o .0 .0
-    open-below (Follows.decrypt o k j p) = o .0 .0
-    open-below (Follows.join o k j p) = o .0 .0
-    open-below (Follows.encrypt o k j p) = o .0 .0
-    open-below (Follows.sum u o d p) = o .0 .0
 
 -- what stands after two pieces of a buffer
 front-kept : (a b rest : List ℕ) (n : ℕ) → length a + length b ≡ n → drop n (a ++ (b ++ rest)) ≡ rest

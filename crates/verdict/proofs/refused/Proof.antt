@@ -1,4 +1,4 @@
--- `verdict::refused` meets its contract: rows 1 to 7, then 8, 9 and 10.
+-- `verdict::refused` meets its contract: rows 1 to 7 and 12, then 8, 9 and 10.
 use mathlib.Core.Path.{_≡_, sym, _∙_}
 use native.Mathlib.Omega.{arith}
 use borrow.Author.Needs.{needs}
