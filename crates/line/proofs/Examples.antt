@@ -30,6 +30,16 @@ open-example : stepLine 3 3 4 0 0 ≡ 114 ∷ 117 ∷ 110 ∷ 103 ∷ 32 ∷ 51 
 unfolding digits decimal sources ruleText member
 open-example = refl
 
+-- "rung 0 unlock 3 2"
+unlock-example : stepLine 0 7 3 2 0 ≡ 114 ∷ 117 ∷ 110 ∷ 103 ∷ 32 ∷ 48 ∷ 32 ∷ 117 ∷ 110 ∷ 108 ∷ 111 ∷ 99 ∷ 107 ∷ 32 ∷ 51 ∷ 32 ∷ 50 ∷ 10 ∷ []
+unfolding digits decimal sources ruleText member
+unlock-example = refl
+
+-- "rung 2 lock 0 1"
+lock-example : stepLine 2 8 0 1 0 ≡ 114 ∷ 117 ∷ 110 ∷ 103 ∷ 32 ∷ 50 ∷ 32 ∷ 108 ∷ 111 ∷ 99 ∷ 107 ∷ 32 ∷ 48 ∷ 32 ∷ 49 ∷ 10 ∷ []
+unfolding digits decimal sources ruleText member
+lock-example = refl
+
 -- "rung 0 sum"
 empty-sum-example : stepLine 0 6 65535 65535 0 ≡ 114 ∷ 117 ∷ 110 ∷ 103 ∷ 32 ∷ 48 ∷ 32 ∷ 115 ∷ 117 ∷ 109 ∷ 10 ∷ []
 unfolding digits decimal sources ruleText member

@@ -6,7 +6,7 @@ use mathlib.Core.Bool.{cond}
 use lib.ListN.{getD}
 use Rattle.bitset.specs.Set.{member}
 use Rattle.line.specs.Decimal.{decimal}
-use Rattle.line.specs.Words.{goal-word, trace-word, cut-word, out-of-reach-word, reached-word, step-word, left-word, right-word, open-word, join-word, seal-word, sum-word, refused-word, newline}
+use Rattle.line.specs.Words.{goal-word, trace-word, cut-word, out-of-reach-word, reached-word, step-word, left-word, right-word, open-word, join-word, seal-word, sum-word, unlock-word, lock-word, refused-word, newline}
 
 -- " N"
 abbrev pub spaced : ℕ → List ℕ
@@ -25,7 +25,8 @@ unfoldable pub sources : ℕ → ℕ → List ℕ
 sources s zero = []
 sources s (suc n) = sources s n ++ source s n
 
--- "the rule (`left`, `right`, `open`, `join`, `seal`, `sum`) and its sources", by the rule's number from 1 to 6; nothing for any other number
+-- "the rule (`left`, `right`, `open`, `join`, `seal`, `sum`) and its sources", and document 02, E6: "Both .. print `unlock` and `lock`"; by the rule's
+-- number from 1 to 8; nothing for any other number
 unfoldable pub ruleText : ℕ → ℕ → ℕ → ℕ → List ℕ
 ruleText rule first second set =
     getD
@@ -36,6 +37,8 @@ ruleText rule first second set =
     ∷ (field join-word first ++ spaced second)
     ∷ (field seal-word first ++ spaced second)
     ∷ (sum-word ++ sources set 256)
+    ∷ (field unlock-word first ++ spaced second)
+    ∷ (field lock-word first ++ spaced second)
     ∷ [])
     rule
     []

@@ -50,6 +50,14 @@ seal-word = 32 ∷ 115 ∷ 101 ∷ 97 ∷ 108 ∷ []
 abbrev pub sum-word : List ℕ
 sum-word = 32 ∷ 115 ∷ 117 ∷ 109 ∷ []
 
+-- " unlock"
+abbrev pub unlock-word : List ℕ
+unlock-word = 32 ∷ 117 ∷ 110 ∷ 108 ∷ 111 ∷ 99 ∷ 107 ∷ []
+
+-- " lock"
+abbrev pub lock-word : List ℕ
+lock-word = 32 ∷ 108 ∷ 111 ∷ 99 ∷ 107 ∷ []
+
 -- "refused"
 abbrev pub refused-word : List ℕ
 refused-word = 114 ∷ 101 ∷ 102 ∷ 117 ∷ 115 ∷ 101 ∷ 100 ∷ []

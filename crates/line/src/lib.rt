@@ -110,6 +110,12 @@ fn rule_text(out: &mut [u8], at: usize, rule: u16, first: u16, second: u16, set:
         let a = text(out, at, b" sum");
         return sources(out, a, set);
     }
+    if rule == 7 {
+        return two(out, at, b" unlock", first, second);
+    }
+    if rule == 8 {
+        return two(out, at, b" lock", first, second);
+    }
     at
 }
 

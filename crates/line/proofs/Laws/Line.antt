@@ -9,7 +9,7 @@ use native.Mathlib.Omega.{arith}
 use lib.ListN.{length, set, length-append}
 use Rattle.bitset.specs.Set.{member}
 use Rattle.line.specs.Decimal.{decimal}
-use Rattle.line.specs.Words.{step-word, refused-word, newline, left-word, right-word, open-word, join-word, seal-word, sum-word}
+use Rattle.line.specs.Words.{step-word, refused-word, newline, left-word, right-word, open-word, join-word, seal-word, sum-word, unlock-word, lock-word}
 use Rattle.line.specs.Line.{spaced, field, source, sources, ruleText, pairLine, stepLine, refusedLine}
 use Rattle.line.proofs.Laws.Decimal.{decimal-small, decimal-more, decimal-longer, decimal-length}
 use Rattle.line.proofs.Laws.Buffer.{append-as, append-byte, append-more, append-length, next-room}
@@ -114,17 +114,27 @@ module _ (first second set rule : ℕ) where
   unfolding ruleText
   rule-six e = ap (λ (x : ℕ). ruleText x first second set) (sym e)
 
+  pub rule-seven : rule ≡ 7 → field unlock-word first ++ spaced second ≡ ruleText rule first second set
+  unfolding ruleText
+  rule-seven e = ap (λ (x : ℕ). ruleText x first second set) (sym e)
+
+  pub rule-eight : rule ≡ 8 → field lock-word first ++ spaced second ≡ ruleText rule first second set
+  unfolding ruleText
+  rule-eight e = ap (λ (x : ℕ). ruleText x first second set) (sym e)
+
 -- a number that no rule has
-pub rule-none : (first second set rule : ℕ) → ¬ (rule ≡ 1) → ¬ (rule ≡ 2) → ¬ (rule ≡ 3) → ¬ (rule ≡ 4) → ¬ (rule ≡ 5) → ¬ (rule ≡ 6) → [] ≡ ruleText rule first second set
+pub rule-none : (first second set rule : ℕ) → ¬ (rule ≡ 1) → ¬ (rule ≡ 2) → ¬ (rule ≡ 3) → ¬ (rule ≡ 4) → ¬ (rule ≡ 5) → ¬ (rule ≡ 6) → ¬ (rule ≡ 7) → ¬ (rule ≡ 8) → [] ≡ ruleText rule first second set
 unfolding ruleText
-rule-none first second set zero a b c d e f = refl
-rule-none first second set (suc zero) a b c d e f = absurd (a refl)
-rule-none first second set (suc (suc zero)) a b c d e f = absurd (b refl)
-rule-none first second set (suc (suc (suc zero))) a b c d e f = absurd (c refl)
-rule-none first second set (suc (suc (suc (suc zero)))) a b c d e f = absurd (d refl)
-rule-none first second set (suc (suc (suc (suc (suc zero))))) a b c d e f = absurd (e refl)
-rule-none first second set (suc (suc (suc (suc (suc (suc zero)))))) a b c d e f = absurd (f refl)
-rule-none first second set (suc (suc (suc (suc (suc (suc (suc n))))))) a b c d e f = refl
+rule-none first second set zero a b c d e f g h = refl
+rule-none first second set (suc zero) a b c d e f g h = absurd (a refl)
+rule-none first second set (suc (suc zero)) a b c d e f g h = absurd (b refl)
+rule-none first second set (suc (suc (suc zero))) a b c d e f g h = absurd (c refl)
+rule-none first second set (suc (suc (suc (suc zero)))) a b c d e f g h = absurd (d refl)
+rule-none first second set (suc (suc (suc (suc (suc zero))))) a b c d e f g h = absurd (e refl)
+rule-none first second set (suc (suc (suc (suc (suc (suc zero)))))) a b c d e f g h = absurd (f refl)
+rule-none first second set (suc (suc (suc (suc (suc (suc (suc zero))))))) a b c d e f g h = absurd (g refl)
+rule-none first second set (suc (suc (suc (suc (suc (suc (suc (suc zero)))))))) a b c d e f g h = absurd (h refl)
+rule-none first second set (suc (suc (suc (suc (suc (suc (suc (suc (suc n))))))))) a b c d e f g h = refl
 
 -- a rule's text has at most 1028 bytes
 pub rule-length : (first second set rule : ℕ) → first < 2 ^ 32 → second < 2 ^ 32 → length (ruleText rule first second set) ≤ 1028
@@ -136,13 +146,15 @@ rule-length first second set (suc (suc (suc zero))) p q = omega (arith, spaced-l
 rule-length first second set (suc (suc (suc (suc zero)))) p q = omega (arith, spaced-length first p, spaced-length second q, length-append (decimal first) (spaced second))
 rule-length first second set (suc (suc (suc (suc (suc zero))))) p q = omega (arith, spaced-length first p, spaced-length second q, length-append (decimal first) (spaced second))
 rule-length first second set (suc (suc (suc (suc (suc (suc zero)))))) p q = omega (arith, sources-length set 256 (le-of-eq refl))
-rule-length first second set (suc (suc (suc (suc (suc (suc (suc n))))))) p q = omega arith
+rule-length first second set (suc (suc (suc (suc (suc (suc (suc zero))))))) p q = omega (arith, spaced-length first p, spaced-length second q, length-append (decimal first) (spaced second))
+rule-length first second set (suc (suc (suc (suc (suc (suc (suc (suc zero)))))))) p q = omega (arith, spaced-length first p, spaced-length second q, length-append (decimal first) (spaced second))
+rule-length first second set (suc (suc (suc (suc (suc (suc (suc (suc (suc n))))))))) p q = omega arith
 
--- a word of at most six letters and a number, or two of them, have room
-pub one-room : (d : List ℕ) (at : ℕ) (w : List ℕ) (n : ℕ) → length w ≤ 6 → n < 2 ^ 32 → at + 1030 ≤ length d → at + length (field w n) ≤ length d
+-- a word of at most seven letters and a number, or two of them, have room
+pub one-room : (d : List ℕ) (at : ℕ) (w : List ℕ) (n : ℕ) → length w ≤ 7 → n < 2 ^ 32 → at + 1030 ≤ length d → at + length (field w n) ≤ length d
 one-room d at w n short h room = let a = length-append w (spaced n) in let b = spaced-length n h in omega arith
 
-pub two-room : (d : List ℕ) (at : ℕ) (w : List ℕ) (n m : ℕ) → length w ≤ 6 → n < 2 ^ 32 → m < 2 ^ 32 → at + 1030 ≤ length d
+pub two-room : (d : List ℕ) (at : ℕ) (w : List ℕ) (n m : ℕ) → length w ≤ 7 → n < 2 ^ 32 → m < 2 ^ 32 → at + 1030 ≤ length d
     → at + length (field w n ++ spaced m) ≤ length d
 two-room d at w n m short h k room =
     let a = length-append w (spaced n) in let b = spaced-length n h in let f = length-append (field w n) (spaced m) in let g = spaced-length m k in omega arith

@@ -5,9 +5,9 @@ use borrow.Author.Needs.{needs}
 use denote.Ref.{now}
 use Rattle.bitset.specs.Words.{value}
 use Rattle.line.specs.Line.{sources}
-use Rattle.line.specs.Words.{left-word, right-word, open-word, join-word, seal-word, sum-word}
+use Rattle.line.specs.Words.{left-word, right-word, open-word, join-word, seal-word, sum-word, unlock-word, lock-word}
 use Rattle.line.proofs.Laws.Buffer.{append-as, append-more, append-none}
-use Rattle.line.proofs.Laws.Line.{one-room, two-room, sum-room, rule-one, rule-two, rule-three, rule-four, rule-five, rule-six, rule-none}
+use Rattle.line.proofs.Laws.Line.{one-room, two-room, sum-room, rule-one, rule-two, rule-three, rule-four, rule-five, rule-six, rule-seven, rule-eight, rule-none}
 use Rattle.line.proofs.rule_text.Statement.{statement}
 use Rattle.line.proofs.rule_text.Tie as tie
 
@@ -96,9 +96,42 @@ returns-6 : tie.Need-returns-6
 returns-6 c = let s = c .before .before .before .before .before .before .before .before .before .before .before .before .before .before .before .before in
     append-as (rule-six (s .args .first) (s .args .second) (value (s .args .set)) (s .args .rule) (c .before .before .before .before .before .before .before .before .before .if6 .taken)) (append-more (now (s .args .out)) (s .args .at) sum-word (sources (value (s .args .set)) 256) (sum-room (now (s .args .out)) (s .args .at) (value (s .args .set)) (s .pre)) (c .before .before .before .before .before .before .text .ensures) (c .before .before .sources .ensures))
 
+slice-aggregate-two-4 : tie.Need-slice-aggregate-two-4
+slice-aggregate-two-4 c = search needs
+
+two-requires-4 : tie.Need-two-requires-4
+two-requires-4 c κs = let s = c .before .before .before .before .before .before .before .before .before .before in
+    two-room (now (s .args .out)) (s .args .at) unlock-word (s .args .first) (s .args .second) (omega arith) (first-fits s) (second-fits s) (s .pre)
+
+same-length-7 : tie.Need-same-length-7
+same-length-7 c = search needs
+
 returns-7 : tie.Need-returns-7
-returns-7 c = let s = c .before .before .before .before .before .before .before in
-    append-as (rule-none (s .args .first) (s .args .second) (value (s .args .set)) (s .args .rule) (c .before .before .before .before .before .if1 .left) (c .before .before .before .before .if2 .left) (c .before .before .before .if3 .left) (c .before .before .if4 .left) (c .before .if5 .left) (c .if6 .left)) (append-none (now (s .args .out)) (s .args .at) (omega (arith, s .pre)))
+returns-7 c = let t = c .before .before .before .before .before in
+    let s = t .before .before .before .before .before .before .before .before in
+    append-as (rule-seven (s .args .first) (s .args .second) (value (s .args .set)) (s .args .rule) (t .if7 .taken)) (c .before .before .two4 .ensures)
+
+slice-aggregate-two-5 : tie.Need-slice-aggregate-two-5
+slice-aggregate-two-5 c = search needs
+
+two-requires-5 : tie.Need-two-requires-5
+two-requires-5 c κs = let s = c .before .before .before .before .before .before .before .before .before .before .before in
+    two-room (now (s .args .out)) (s .args .at) lock-word (s .args .first) (s .args .second) (omega arith) (first-fits s) (second-fits s) (s .pre)
+
+same-length-8 : tie.Need-same-length-8
+same-length-8 c = search needs
+
+returns-8 : tie.Need-returns-8
+returns-8 c = let t = c .before .before .before .before .before in
+    let s = t .before .before .before .before .before .before .before .before .before in
+    append-as (rule-eight (s .args .first) (s .args .second) (value (s .args .set)) (s .args .rule) (t .if8 .taken)) (c .before .before .two5 .ensures)
+
+returns-9 : tie.Need-returns-9
+returns-9 c = let e = c .before .before in
+    let s = e .before .before .before .before .before .before .before in
+    append-as
+    (rule-none (s .args .first) (s .args .second) (value (s .args .set)) (s .args .rule) (e .before .before .before .before .before .if1 .left) (e .before .before .before .before .if2 .left) (e .before .before .before .if3 .left) (e .before .before .if4 .left)
+    (e .before .if5 .left) (e .if6 .left) (c .before .if7 .left) (c .if8 .left)) (append-none (now (s .args .out)) (s .args .at) (omega (arith, s .pre)))
 
 pub rule-text-spec : {M : Type 1} → statement M
 rule-text-spec =
@@ -129,4 +162,12 @@ rule-text-spec =
     sources-requires
     same-length-6
     returns-6
-    returns-7)
+    slice-aggregate-two-4
+    two-requires-4
+    same-length-7
+    returns-7
+    slice-aggregate-two-5
+    two-requires-5
+    same-length-8
+    returns-8
+    returns-9)
