@@ -4,8 +4,9 @@
 #include <stdio.h>
 #include <string.h>
 
-/* A term: its name, its kind, and how many numbers its record has. An atom has its own number, up to 4,294,967,295; a pair, a seal and a sum have
- * entry numbers. Atoms 0 to 255 are the names on the hull label, which every listener has: a secret takes a higher number. */
+/* A term: its name, its kind, and how many numbers its record has. An atom has its own number, up to 4,294,967,295, and a half the number of its key
+ * pair, up to 65,535; a pair, a seal, a lock and a sum have entry numbers. Atoms 0 to 255 are the names on the hull label, which every listener has: a
+ * secret takes a higher number. */
 struct term {
     const char *name;
     uint8_t kind;
@@ -29,7 +30,7 @@ enum { HEARD = sizeof heard / sizeof heard[0], GOAL = PLAN };
 /* A table that is too large does not compile: this array would have a negative length. */
 typedef char table_fits[ENTRIES <= ZUWENDRYK_MOST_ENTRIES && HEARD <= ZUWENDRYK_MOST_HEARD ? 1 : -1];
 
-static const char *const words[] = {"", "left", "right", "open", "join", "seal", "sum"};
+static const char *const words[] = {"", "left", "right", "open", "join", "seal", "sum", "unlock", "lock"};
 
 /* Writes the low 16 bits of a number, the high byte first, and answers the place after them. */
 static uint8_t *put(uint8_t *at, size_t number) {

@@ -5,7 +5,7 @@
 #include <stdio.h>
 #include <string.h>
 
-static const char *const words[] = {"", "left", "right", "open", "join", "seal", "sum"};
+static const char *const words[] = {"", "left", "right", "open", "join", "seal", "sum", "unlock", "lock"};
 
 static unsigned number(const uint8_t *p) { return p[0] * 256u + p[1]; }
 

@@ -1,9 +1,10 @@
 /* zuwendryk.h: can a stranger who listens to a radio link work out a key?
  *
- * A sheet is a numbered table of up to 256 terms: zero, atoms, pairs, terms sealed under a key term, and sums by exclusive or. It also lists
- * the messages that were heard, in order, and names one entry as the goal. The calls here judge whether a listener gains the goal from the
- * names on the hull label and the messages heard before a cut. "Reached" comes with the steps, called rungs. "Out of reach" is proved: no
- * finite row of steps whatever, through terms of any size, gains the goal. It comes with what the listener still lacks.
+ * A sheet is a numbered table of up to 256 terms: zero, atoms, pairs, terms sealed under a key term, sums by exclusive or, halves of key pairs,
+ * and terms locked under a half. It also lists the messages that were heard, in order, and names one entry as the goal. The calls here judge
+ * whether a listener gains the goal from the names on the hull label and the messages heard before a cut. "Reached" comes with the steps,
+ * called rungs. "Out of reach" is proved: no finite row of steps whatever, through terms of any size, gains the goal. It comes with what the
+ * listener still lacks.
  *
  * This header is the manual: version, linking, the sheet's bytes, the rules, the answers, the buffer's bytes, what is missing, stack, what a
  * caller owes and what is proved, then the two calls. examples/build.c makes a sheet and asks for its verdict; examples/verdict.c reads one from
@@ -22,6 +23,9 @@ extern "C" {
 /* VERSION. The same stands in zuwendryk.pc and in what `sheet --version` prints. The first number changes when a sheet can get another answer or
  * the buffer another layout:
  *
+ *     5.0.0   Key pairs and locks: the kinds 5, 6 and 7, the rules 7 and 8, and refusal 12, wrong half. A caller that was made for version 4 has to
+ *             expect both rules in a rung, and 12 among the answers of both calls. A sheet without these kinds gets the same answer and the same
+ *             bytes. A sheet with one of them was refused, with 5 unless another refusal came first.
  *     4.0.0   An atom's number has up to 32 bits: its record may be long, and the longest sheet has 34,446 bytes. A caller that was made for
  *             version 3 is compiled anew if it takes the length of its reading area from ZUWENDRYK_LONGEST_SHEET: one that cuts its input
  *             after 34,445 bytes no longer has a sheet that is too long. A sheet of at most 34,444 bytes without long atom records gets the
@@ -31,10 +35,10 @@ extern "C" {
  *             buffer that was just long enough before is refused now. Answers, gained set and rungs are as they were.
  *     2.0.0   Atoms 0 to 255 are on the hull label. A sheet that was made for version 1 and uses such numbers for secrets has to be numbered
  *             anew. */
-#define ZUWENDRYK_VERSION_MAJOR 4
+#define ZUWENDRYK_VERSION_MAJOR 5
 #define ZUWENDRYK_VERSION_MINOR 0
 #define ZUWENDRYK_VERSION_PATCH 0
-#define ZUWENDRYK_VERSION "4.0.0"
+#define ZUWENDRYK_VERSION "5.0.0"
 
 /* LINKING
  *
@@ -85,16 +89,27 @@ extern "C" {
  *     2 pair      left, right     5         the two terms side by side
  *     3 seal      message, key    5         the message sealed under the key; any entry may be a key
  *     4 sum       0 to 64 items   1 + 2k    the sum of its k items by exclusive or. An item may stand there again, and then cancels out
+ *     5 private   the pair's      3         the private half of the key pair with this number, 0 to 65,535
+ *     6 public    the pair's      3         its public half. The two halves of a pair are opposite to each other
+ *     7 lock      message, key    5         the message locked under the key, which is an entry of kind 5 or 6. The opposite half unlocks it
  *
  * Left, right, message, key and items are entry numbers, and each is lower than the number of the entry whose record it stands in. So a term
- * comes after its parts, and entry 0 is zero, an atom or a sum of nothing.
+ * comes after its parts, and entry 0 is zero, an atom, a half or a sum of nothing. A key pair's number is no entry number.
+ *
+ * Neither half is public knowledge, whatever its number: a listener has it when it was heard or gained, and nothing gains a half that has no
+ * entry. So a sheet with a public half that everyone knows lists its entry among the first heard messages. A lock under a public half is
+ * encryption for the owner of the private one; a lock under a private half is a signature or a certificate, which shows its message to everyone
+ * who has the public half.
+ *
+ * The key of a lock is of kind 5 or 6 by its own record. A sum that is the same term as a half is no key of a lock; see refusal 12.
  *
  * Two entries may be the same term, as the sum of 0 and 1 and the sum of 1 and 0. Then the lower number, the head, stands for both in what a
- * call hands back. Terms are the same when exclusive or makes them so, also inside pairs and seals: order and grouping of a sum don't
- * matter, a term summed with itself is zero, and zero adds nothing.
+ * call hands back. Terms are the same when exclusive or makes them so, also inside pairs, seals and locks: order and grouping of a sum don't
+ * matter, a term summed with itself is zero, and zero adds nothing. Atoms, pairs, seals, private halves, public halves and locks are never the
+ * same as a term of another of these kinds.
  *
- * A head that is an atom, a pair or a seal is called a standard entry. Every entry's term is the sum of exactly one set of standard entries,
- * which is empty for zero.
+ * A head that is an atom, a pair, a seal, a half or a lock is called a standard entry. Every entry's term is the sum of exactly one set of
+ * standard entries, which is empty for zero.
  *
  * docs/FORMAT.md goes through a sheet of 55 bytes and two of its answers, byte by byte. */
 #define ZUWENDRYK_LETTERS "SHT1"
@@ -110,6 +125,9 @@ extern "C" {
 #define ZUWENDRYK_KIND_PAIR 2
 #define ZUWENDRYK_KIND_SEAL 3
 #define ZUWENDRYK_KIND_SUM 4
+#define ZUWENDRYK_KIND_PRIVATE 5
+#define ZUWENDRYK_KIND_PUBLIC 6
+#define ZUWENDRYK_KIND_LOCK 7
 
 /* A number as a size, so that the sums below are made in size_t whatever the type of their numbers. */
 #ifdef __cplusplus
@@ -133,6 +151,9 @@ extern "C" {
  *     4 join      the pair of two terms                  the left        the right        zero
  *     5 seal      a term sealed under a term             the message     the key          zero
  *     6 sum       the sum of a set of terms              65,535          65,535           the summed entries; none for zero
+ *     7 unlock    the message of a lock                  the lock        the opposite     zero
+ *                 whose key's opposite half it has                       half of its key
+ *     8 lock      a term locked under a half             the message     the half         zero
  *
  * Of all rungs that could follow, a call makes the one that gains the lowest head; of several ways to gain it, that of the lowest rule, then of
  * the lowest first source. A sum is made of the one set that gives it among the gained entries that were not, when gained, sums of those gained
@@ -143,24 +164,28 @@ extern "C" {
 #define ZUWENDRYK_RULE_JOIN 4
 #define ZUWENDRYK_RULE_SEAL 5
 #define ZUWENDRYK_RULE_SUM 6
+#define ZUWENDRYK_RULE_UNLOCK 7
+#define ZUWENDRYK_RULE_LOCK 8
 #define ZUWENDRYK_NO_SOURCE 65535
 #define ZUWENDRYK_MOST_RUNGS 256 /* the greatest budget */
 
 /* ANSWERS of zuwendryk_verdict: a refusal's number, or a verdict's number plus the number of rungs made, 0 to 256. So an answer below
  * ZUWENDRYK_REACHED is a refusal, and of any other answer / 1000 * 1000 is the verdict and answer % 1000 the rungs. */
 
-/* Refusals. They are looked for in the order of their numbers, except that the records are taken entry by entry, 5 before 6 in each. A refused
- * call hands back the number alone, and the buffer keeps every byte. */
+/* Refusals. They are looked for in the order of their numbers, except that the records are taken entry by entry, and in each 5 comes before 6 and 6
+ * before 12. So a 12 in one record comes before a 5 in a later one, and before 7 to 10. There is no 11. A refused call hands back the number alone, and
+ * the buffer keeps every byte. */
 #define ZUWENDRYK_NO_SHEET 1     /* under 10 bytes, over ZUWENDRYK_LONGEST_SHEET, or the four letters differ */
 #define ZUWENDRYK_BAD_COUNT 2    /* n, h or the goal is outside its range */
 #define ZUWENDRYK_SHORT_LIST 3   /* the sheet ends before its records would begin, at 10 + 4n + 2h */
 #define ZUWENDRYK_BAD_PAIR 4     /* a record's place: length 0, an offset that isn't the last record's end, an end past the sheet; or bytes left over */
-#define ZUWENDRYK_BAD_RECORD 5   /* a kind over 4, or a length that the kind doesn't have */
+#define ZUWENDRYK_BAD_RECORD 5   /* a kind over 7, or a length that the kind doesn't have */
 #define ZUWENDRYK_FORWARD 6      /* an entry number in a record that isn't lower than the record's own */
 #define ZUWENDRYK_NOT_LISTED 7   /* a heard message, also one past the cut, whose entry number is n or more */
 #define ZUWENDRYK_PAST_THE_LOG 8 /* cut over h */
 #define ZUWENDRYK_OVER_BUDGET 9  /* budget over ZUWENDRYK_MOST_RUNGS */
 #define ZUWENDRYK_NO_SPACE 10    /* a buffer shorter than ZUWENDRYK_BUFFER(budget) */
+#define ZUWENDRYK_WRONG_HALF 12  /* a lock whose key entry isn't itself of kind 5 or 6 */
 
 /* Verdicts. */
 #define ZUWENDRYK_REACHED 1000      /* the goal is gained; the buffer holds the rungs that gain it */
@@ -176,7 +201,7 @@ extern "C" {
  *     64              32      the remainder, in the gained set's form; zero where the verdict isn't out of reach
  *     96 + 40i        40      rung i, counted from 0 in the order made:
  *       + 0           2         the gained entry
- *       + 2           2         the rule, 1 to 6
+ *       + 2           2         the rule, 1 to 8
  *       + 4           2         the first source, or 65,535
  *       + 6           2         the second source, or 65,535
  *       + 8           32        the set of summed entries, in the gained set's form
@@ -211,8 +236,8 @@ extern "C" {
  *     0 the pad, 1 the key, 2 the sum of both      2           0, the pad
  *     0 the key, 1 the pad, 2 the sum of both      none        0, the key itself
  *
- * The remainder is about sums alone. Another term may open another way to the goal, as the key of a seal that was heard. To see what the loss
- * of a term would do, add its entry to the heard messages and ask again. */
+ * The remainder is about sums alone. Another term may open another way to the goal, as the key of a seal or the opposite half of the key of a lock
+ * that was heard. To see what the loss of a term would do, add its entry to the heard messages and ask again. */
 
 /* STACK. The most bytes of stack that a call itself touches, below its caller's own: a verdict's, and those of a call that is refused and of
  * zuwendryk_validate. They include what the dynamic linker takes when it looks up memcpy or memset at the first use. A thread made for a verdict
@@ -236,13 +261,14 @@ extern "C" {
  * a sum of gained terms; no other two sets are so. The remainder isn't empty, and none of its members is gained. No finite row of steps gains the
  * sum of its terms, and a listener who had that sum would gain the goal.
  *
- * Assumed are the checker, the compiler's back end, and that keys are perfect: a seal shows nothing without its key. */
+ * Assumed are the checker, the compiler's back end, and that keys are perfect: a seal shows nothing without its key, nor a lock without the opposite
+ * half of its key. */
 
 /* The verdict on a sheet after the first `cut` heard messages, 0 to h, with at most `budget` rungs, 0 to 256. The answers and the buffer's bytes are
  * said above. A budget of ZUWENDRYK_MOST_RUNGS is enough for every sheet. The time grows with the square of n. */
 uint32_t zuwendryk_verdict(const uint8_t *sheet, size_t sheet_len, uint32_t cut, uint32_t budget, uint8_t *buffer, size_t buffer_len);
 
-/* Is this a good sheet? The number of the refusal, 1 to 7, or 0 for a good one. */
+/* Is this a good sheet? The number of the refusal, 1 to 7 or 12, or 0 for a good one. */
 uint32_t zuwendryk_validate(const uint8_t *sheet, size_t sheet_len);
 
 #ifdef __cplusplus

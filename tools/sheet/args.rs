@@ -28,7 +28,7 @@ pub enum Command {
 }
 
 // The version of the tool and of the library, as the C header has it.
-const VERSION: &str = "sheet 4.0.0\n";
+const VERSION: &str = "sheet 5.0.0\n";
 
 const HELP: &str = "\
 sheet - sheets as text, verdicts in names, and pictures of their ladders
@@ -56,6 +56,7 @@ reached, and the steps in order:
     LEFT split left PAIR            RIGHT split right PAIR
     MESSAGE open SEAL with KEY      PAIR join LEFT, RIGHT
     SEAL seal MESSAGE under KEY     TERM sum of TERM, TERM      TERM sum of nothing
+    MESSAGE unlock LOCK with HALF   LOCK lock MESSAGE under HALF
     NAME is the same term as NAME
 
 Where the goal is out of reach, what the listener lacks stands in place of the steps: one term, or the sum of several; and the known
@@ -83,11 +84,16 @@ Reads the text notation of a sheet and writes the sheet's bytes. One statement a
     LABEL pair LEFT RIGHT
     LABEL seal MESSAGE KEY
     LABEL sum ITEM*             0 to 64 items
+    LABEL private NUMBER        the private half of the key pair with this number, 0 to 65535
+    LABEL public NUMBER         its public half; a listener has neither half until it is heard or gained
+    LABEL lock MESSAGE KEY      the message locked under a half; the opposite half unlocks it
     heard ENTRY*                in the order heard; further heard lines go on
     goal ENTRY                  exactly once
 
 LABEL is the entry's number (0, 1, ...) or a name. Entries are referred to by number or name, below their line.
-Atoms with one number are one term: where two of them have names, a note on standard error names both.
+The key of a lock is an entry whose own line is private or public.
+Atoms with one number are one term; so are private halves with one number, and public ones. Where two have names, a note on standard
+error names both.
 ";
 
 const DISASSEMBLE: &str = "\

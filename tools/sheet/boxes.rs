@@ -111,7 +111,7 @@ pub fn class(node: &Node) -> &'static str {
     }
 }
 
-fn colour(node: &Node) -> &'static str {
+pub fn colour(node: &Node) -> &'static str {
     match node.kind {
         Kind::Public => "public-ink",
         Kind::Heard(_) => "heard-ink",
@@ -122,6 +122,8 @@ fn colour(node: &Node) -> &'static str {
         Kind::Rung(_, Rule::Join) => "join-ink",
         Kind::Rung(_, Rule::Seal) => "seal-ink",
         Kind::Rung(_, Rule::Sum) => "sum-ink",
+        Kind::Rung(_, Rule::Unlock) => "unlock-ink",
+        Kind::Rung(_, Rule::Lock) => "lock-ink",
     }
 }
 

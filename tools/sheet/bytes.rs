@@ -1,17 +1,18 @@
 // The sheet bytes of documents 01 and 02: `encode` writes them, `decode` reads them or gives the refusal of the grounding table.
 
-use super::model::{Entry, Sheet, MOST_ENTRIES, MOST_HEARD, MOST_ITEMS};
+use super::model::{Entry, Half, Sheet, MOST_ENTRIES, MOST_HEARD, MOST_ITEMS};
 
 pub const LETTERS: &[u8; 4] = b"SHT1";
 pub const MOST_BYTES: usize = 34_446;
 
-// The word of a refusal number in the grounding table.
+// The word of a refusal number in the grounding table. No refusal has the number 11.
 pub fn refusal_word(number: u32) -> Option<&'static str> {
     let words = [
-        "no sheet", "bad count", "short list", "bad pair", "bad record", "forward", "not listed", "past the log", "over budget", "no space",
+        "no sheet", "bad count", "short list", "bad pair", "bad record", "forward", "not listed", "past the log", "over budget", "no space", "",
+        "wrong half",
     ];
     let place = usize::try_from(number).ok()?.checked_sub(1)?;
-    words.get(place).copied()
+    words.get(place).copied().filter(|word| !word.is_empty())
 }
 
 // An atom's number in pieces of 2 bytes, the high one first: one in the short record, two in the long one.
@@ -27,6 +28,8 @@ fn record(entry: &Entry) -> Vec<u8> {
         Entry::Pair(left, right) => (2, vec![*left, *right]),
         Entry::Seal(message, key) => (3, vec![*message, *key]),
         Entry::Sum(items) => (4, items.clone()),
+        Entry::Half(half) => (if half.private { 5 } else { 6 }, vec![usize::from(half.number)]),
+        Entry::Lock(message, key) => (7, vec![*message, *key]),
     };
     let mut bytes = vec![kind];
     numbers.iter().for_each(|n| put(&mut bytes, *n));
@@ -78,8 +81,8 @@ fn slices(bytes: &[u8], n: usize, start: usize) -> Result<Vec<&[u8]>, u32> {
     if end == bytes.len() { Ok(records) } else { Err(4) }
 }
 
-// One record, or refusal 5 or 6.
-fn entry(record: &[u8], own: usize) -> Result<Entry, u32> {
+// One record behind these entries, or refusal 5, 6 or 12.
+fn entry(record: &[u8], above: &[Entry]) -> Result<Entry, u32> {
     let numbers: Vec<usize> = (1..record.len().saturating_sub(1)).step_by(2).map(|at| number(record, at)).collect();
     let entry = match (record.first(), record.len(), numbers.as_slice()) {
         (Some(0), 1, _) => Entry::Zero,
@@ -88,9 +91,17 @@ fn entry(record: &[u8], own: usize) -> Result<Entry, u32> {
         (Some(2), 5, [left, right]) => Entry::Pair(*left, *right),
         (Some(3), 5, [message, key]) => Entry::Seal(*message, *key),
         (Some(4), length, items) if length % 2 == 1 && items.len() <= MOST_ITEMS => Entry::Sum(items.to_vec()),
+        (Some(kind @ (5 | 6)), 3, [number]) => return Ok(Entry::Half(Half { private: *kind == 5, number: *number as u16 })),
+        (Some(7), 5, [message, key]) => Entry::Lock(*message, *key),
         _ => return Err(5),
     };
-    if numbers.iter().all(|n| *n < own) { Ok(entry) } else { Err(6) }
+    if !numbers.iter().all(|n| *n < above.len()) {
+        return Err(6);
+    }
+    match entry {
+        Entry::Lock(_, key) if above[key].half().is_none() => Err(12),
+        entry => Ok(entry),
+    }
 }
 
 // The sheet, or its refusal number, in the table's order.
@@ -107,7 +118,10 @@ pub fn decode(bytes: &[u8]) -> Result<Sheet, u32> {
         return Err(3);
     }
     let records = slices(bytes, n, start)?;
-    let entries = records.iter().enumerate().map(|(i, record)| entry(record, i)).collect::<Result<Vec<_>, _>>()?;
+    let mut entries = Vec::new();
+    for record in records {
+        entries.push(entry(record, &entries)?);
+    }
     let heard: Vec<usize> = (0..h).map(|i| number(bytes, 10 + 4 * n + 2 * i)).collect();
     if heard.iter().any(|entry| *entry >= n) {
         return Err(7);

@@ -2,7 +2,7 @@
 
 use super::bytes::refusal_word;
 use super::heads::{add, Heads};
-use super::model::{Entry, Sheet, ON_HULL_LABEL};
+use super::model::{Entry, Half, Sheet, ON_HULL_LABEL};
 use super::words::{decimal, end_of, fault, line, quoted, utf8, Fault, Line, Place, Word};
 
 #[derive(Clone, Copy, Debug, PartialEq)]
@@ -13,15 +13,20 @@ pub enum Rule {
     Join,
     Seal,
     Sum,
+    Unlock,
+    Lock,
 }
+
+const RULES: &str = "left, right, open, join, seal, sum, unlock or lock";
 
 impl Rule {
     fn of(word: &str) -> Option<Rule> {
-        let rules = [("left", Rule::Left), ("right", Rule::Right), ("open", Rule::Open), ("join", Rule::Join), ("seal", Rule::Seal), ("sum", Rule::Sum)];
-        rules.into_iter().find(|(name, _)| *name == word).map(|(_, rule)| rule)
+        let one = [("left", Rule::Left), ("right", Rule::Right), ("open", Rule::Open), ("join", Rule::Join)];
+        let other = [("seal", Rule::Seal), ("sum", Rule::Sum), ("unlock", Rule::Unlock), ("lock", Rule::Lock)];
+        one.into_iter().chain(other).find(|(name, _)| *name == word).map(|(_, rule)| rule)
     }
 
-    // The rule in the words of document 01.
+    // The rule in the words of documents 01 and 02.
     pub fn words(self) -> &'static str {
         match self {
             Rule::Left => "split left",
@@ -30,6 +35,8 @@ impl Rule {
             Rule::Join => "join",
             Rule::Seal => "seal",
             Rule::Sum => "sum",
+            Rule::Unlock => "unlock",
+            Rule::Lock => "lock",
         }
     }
 }
@@ -130,6 +137,7 @@ impl<'a> Replay<'a> {
     fn right(&self, rung: &Rung) -> bool {
         let head = |entry: &usize| self.heads.head[*entry];
         let entry = |number: usize| &self.sheet.entries[number];
+        let opposite = |key: &usize| entry(*key).half().map(Half::opposite);
         match (rung.rule, rung.sources.as_slice()) {
             (Rule::Left, [pair]) => matches!(entry(*pair), Entry::Pair(left, _) if head(left) == rung.head),
             (Rule::Right, [pair]) => matches!(entry(*pair), Entry::Pair(_, right) if head(right) == rung.head),
@@ -140,6 +148,8 @@ impl<'a> Replay<'a> {
                 let rising = items.windows(2).all(|two| two[0] < two[1]);
                 rising && items.iter().fold([0; 4], |sum, item| add(sum, self.heads.sets[*item])) == self.heads.sets[rung.head]
             }
+            (Rule::Unlock, [lock, half]) => matches!(entry(*lock), Entry::Lock(m, k) if opposite(k) == entry(*half).half() && head(m) == rung.head),
+            (Rule::Lock, [message, key]) => matches!(entry(rung.head), Entry::Lock(m, k) if head(m) == *message && head(k) == *key),
             _ => false,
         }
     }
@@ -149,9 +159,9 @@ impl<'a> Replay<'a> {
         words(line, 0, "rung")?;
         let (head, place) = number(line, 1, "the gained entry")?;
         let rule = match line.words.get(2) {
-            None => return fault(line.end, "found the line's end, expected a rule: left, right, open, join, seal or sum".to_string()),
+            None => return fault(line.end, format!("found the line's end, expected a rule: {RULES}")),
             Some(word) => match Rule::of(word.text) {
-                None => return fault(word.place, format!("unknown word {}, expected left, right, open, join, seal or sum", quoted(word.text))),
+                None => return fault(word.place, format!("unknown word {}, expected {RULES}", quoted(word.text))),
                 Some(rule) => rule,
             },
         };

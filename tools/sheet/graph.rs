@@ -68,11 +68,13 @@ const LONGEST_GOAL: usize = 40;
 
 // The entry's term, one level deep, with its names as `label` writes them.
 fn term(sheet: &Sheet, entry: usize, label: impl Fn(&usize) -> String) -> String {
-    match &sheet.entries[entry] {
+    let entry = &sheet.entries[entry];
+    match entry {
         Entry::Zero => "zero".to_string(),
-        Entry::Atom { number, .. } => format!("atom {number}"),
+        Entry::Atom { .. } | Entry::Half(_) => entry.numbered().unwrap_or_default(),
         Entry::Pair(left, right) => format!("({}, {})", label(left), label(right)),
         Entry::Seal(message, key) => format!("{} sealed under {}", label(message), label(key)),
+        Entry::Lock(message, key) => format!("{} locked under {}", label(message), label(key)),
         Entry::Sum(items) if items.is_empty() => "sum of nothing".to_string(),
         Entry::Sum(items) => items.iter().map(label).collect::<Vec<_>>().join(" ⊕ "),
     }
@@ -81,7 +83,7 @@ fn term(sheet: &Sheet, entry: usize, label: impl Fn(&usize) -> String) -> String
 // The same for a box: names are cut in the middle where the whole is too long.
 fn short_term(sheet: &Sheet, entry: usize) -> String {
     let whole = term(sheet, entry, |e| sheet.label(*e));
-    let most = if let Entry::Seal(..) = sheet.entries[entry] { 11 } else { 15 };
+    let most = if let Entry::Seal(..) | Entry::Lock(..) = sheet.entries[entry] { 11 } else { 15 };
     if columns(&whole) <= LONGEST_TERM { whole } else { term(sheet, entry, |e| cut(&sheet.label(*e), most)) }
 }
 
@@ -160,7 +162,8 @@ fn edges(rule: Rule, sources: &[usize], to: usize, node_of: &[Option<usize>]) ->
     for (i, source) in sources.iter().enumerate() {
         match node_of[*source] {
             Some(from) if !list.iter().any(|edge| edge.from == from) => {
-                list.push(Edge { from, to, key: i == 1 && matches!(rule, Rule::Open | Rule::Seal), needed: false });
+                let key = i == 1 && matches!(rule, Rule::Open | Rule::Seal | Rule::Unlock | Rule::Lock);
+                list.push(Edge { from, to, key, needed: false });
             }
             _ => (),
         }

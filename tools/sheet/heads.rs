@@ -23,7 +23,7 @@ fn single(entry: usize) -> Set {
 impl Heads {
     pub fn of(sheet: &Sheet) -> Heads {
         let mut heads = Heads { sets: Vec::new(), head: Vec::new() };
-        // The standard entry of each atom, pair and seal; the head of each set.
+        // The standard entry of each atom, pair, seal, half and lock; the head of each set.
         let mut standard: HashMap<Key, usize> = HashMap::new();
         let mut first: HashMap<Set, usize> = HashMap::new();
         for (i, entry) in sheet.entries.iter().enumerate() {
@@ -33,6 +33,8 @@ impl Heads {
                 Entry::Atom { number, .. } => set_of((1, *number as usize, 0)),
                 Entry::Pair(left, right) => set_of((2, heads.head[*left], heads.head[*right])),
                 Entry::Seal(message, key) => set_of((3, heads.head[*message], heads.head[*key])),
+                Entry::Half(half) => set_of((if half.private { 5 } else { 6 }, usize::from(half.number), 0)),
+                Entry::Lock(message, key) => set_of((7, heads.head[*message], heads.head[*key])),
                 Entry::Sum(items) => items.iter().fold([0; 4], |sum, item| add(sum, heads.sets[*item])),
             };
             heads.sets.push(set);
@@ -47,5 +49,5 @@ impl Heads {
     }
 }
 
-// A kind with two numbers: the atom's number, or the heads of the two parts.
+// A kind with two numbers: that of the atom or the key pair, or the heads of the two parts.
 type Key = (u8, usize, usize);

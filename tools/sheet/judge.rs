@@ -82,6 +82,8 @@ fn rung_line(sheet: &Sheet, rung: &Rung) -> String {
         Rule::Seal => ("seal", " under "),
         Rule::Sum if names.is_empty() => ("sum of nothing", ""),
         Rule::Sum => ("sum of", ", "),
+        Rule::Unlock => ("unlock", " with "),
+        Rule::Lock => ("lock", " under "),
     };
     let space = if names.is_empty() { "" } else { " " };
     format!("{} {words}{space}{}\n", sheet.label(rung.head), names.join(between))

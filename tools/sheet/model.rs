@@ -13,6 +13,20 @@ const LAST_SHORT: u32 = 65_535;
 // What is said of a public atom.
 pub const ON_HULL_LABEL: &str = "on the hull label";
 
+// A half of the key pair with this number. Nobody has it without hearing or gaining it, whatever the number.
+#[derive(Clone, Copy, Debug, PartialEq)]
+pub struct Half {
+    pub private: bool,
+    pub number: u16,
+}
+
+impl Half {
+    // The other half of the same pair.
+    pub fn opposite(self) -> Half {
+        Half { private: !self.private, ..self }
+    }
+}
+
 // Entries can't be compared: an atom's record may be short or long, and its number alone makes the term.
 #[derive(Clone, Debug)]
 pub enum Entry {
@@ -22,6 +36,9 @@ pub enum Entry {
     Pair(usize, usize),
     Seal(usize, usize),
     Sum(Vec<usize>),
+    Half(Half),
+    // A message under a half, which the opposite half unlocks.
+    Lock(usize, usize),
 }
 
 #[derive(Clone, Debug)]
@@ -49,11 +66,24 @@ impl Entry {
         matches!(self, Entry::Atom { number, long: true } if *number <= LAST_SHORT)
     }
 
+    pub fn half(&self) -> Option<Half> {
+        if let Entry::Half(half) = self { Some(*half) } else { None }
+    }
+
+    // The word and the number of an atom or a half: they make its term.
+    pub fn numbered(&self) -> Option<String> {
+        match self {
+            Entry::Atom { number, .. } => Some(format!("atom {number}")),
+            Entry::Half(Half { private, number }) => Some(format!("{} {number}", if *private { "private" } else { "public" })),
+            _ => None,
+        }
+    }
+
     // The entries that the record names.
     pub fn parts(&self) -> Vec<usize> {
         match self {
-            Entry::Zero | Entry::Atom { .. } => vec![],
-            Entry::Pair(one, other) | Entry::Seal(one, other) => vec![*one, *other],
+            Entry::Zero | Entry::Atom { .. } | Entry::Half(_) => vec![],
+            Entry::Pair(one, other) | Entry::Seal(one, other) | Entry::Lock(one, other) => vec![*one, *other],
             Entry::Sum(items) => items.clone(),
         }
     }

@@ -12,11 +12,11 @@ fn numbers(list: &[usize]) -> String {
 fn statement(entry: &Entry) -> String {
     match entry {
         Entry::Zero => "zero".to_string(),
-        Entry::Atom { number, .. } if entry.says_long() => format!("atom {number} long"),
-        Entry::Atom { number, .. } => format!("atom {number}"),
+        Entry::Atom { .. } | Entry::Half(_) => entry.numbered().unwrap_or_default() + if entry.says_long() { " long" } else { "" },
         Entry::Pair(left, right) => format!("pair {left} {right}"),
         Entry::Seal(message, key) => format!("seal {message} {key}"),
         Entry::Sum(items) => format!("sum{}", numbers(items)),
+        Entry::Lock(message, key) => format!("lock {message} {key}"),
     }
 }
 
@@ -38,9 +38,11 @@ fn write_term(sheet: &Sheet, entry: usize, depth: usize, inner: bool, out: &mut 
     match sheet.entries.get(entry) {
         Some(Entry::Zero) | None => out.push('0'),
         Some(Entry::Atom { number, .. }) => out.push_str(&format!("a{number}")),
+        Some(Entry::Half(half)) => out.push_str(&format!("{}{}", if half.private { "priv" } else { "pub" }, half.number)),
         Some(_) if depth == 0 => out.push_str(&format!("#{entry}")),
         Some(Entry::Pair(left, right)) => return parts("(", &[*left, *right], ", ", ")", false),
         Some(Entry::Seal(message, key)) => return parts("{", &[*message], "", "}", false) && parts("", &[*key], "", "", true),
+        Some(Entry::Lock(message, key)) => return parts("[", &[*message], "", "]", false) && parts("", &[*key], "", "", true),
         Some(Entry::Sum(items)) if items.is_empty() => out.push('0'),
         Some(Entry::Sum(items)) if inner && items.len() > 1 => return parts("(", items, " + ", ")", false),
         Some(Entry::Sum(items)) => return parts("", items, " + ", "", inner),
@@ -52,7 +54,7 @@ fn write_term(sheet: &Sheet, entry: usize, depth: usize, inner: bool, out: &mut 
 fn comment(sheet: &Sheet, entry: usize) -> Option<String> {
     match sheet.entries.get(entry)? {
         atom if atom.is_public() => return Some(ON_HULL_LABEL.to_string()),
-        Entry::Zero | Entry::Atom { .. } => return None,
+        Entry::Zero | Entry::Atom { .. } | Entry::Half(_) => return None,
         Entry::Sum(items) if items.is_empty() => return None,
         _ => (),
     }
@@ -74,8 +76,15 @@ fn entry_lines(sheet: &Sheet) -> String {
     text
 }
 
+// What the comments mean. Halves and locks are left out where the sheet has none.
+fn legend(sheet: &Sheet) -> String {
+    let more = sheet.entries.iter().any(|entry| matches!(entry, Entry::Half(_) | Entry::Lock(..)));
+    let locks = if more { " pub7 public 7, priv7 private 7, [m]k m locked under k," } else { "" };
+    format!("# In comments: a7 atom 7, (l, r) a pair, {{m}}k m sealed under k,{locks} x + y a sum, #5 entry 5.\n")
+}
+
 pub fn print(sheet: &Sheet) -> String {
-    let mut text = String::from("# In comments: a7 atom 7, (l, r) a pair, {m}k m sealed under k, x + y a sum, #5 entry 5.\n");
+    let mut text = legend(sheet);
     text.push_str(&entry_lines(sheet));
     if sheet.heard.is_empty() {
         text.push_str("heard\n");

@@ -1,7 +1,7 @@
 // The picture of a ladder as SVG: each rung a box, public atoms and heard messages before their first use, lines from its sources, the goal
 // in gold. A picture that would be too wide or too tall is drawn in parts, row under row. A goal that is out of reach stands apart.
 
-use super::boxes::{class, draw, escape, size, spoken, Area};
+use super::boxes::{class, colour, draw, escape, size, spoken, Area};
 use super::graph::{Graph, Kind};
 use super::lack::lacking;
 use super::layout::{layout, least_height, ranked, Layout, Link, GAP};
@@ -64,6 +64,21 @@ const MISSING_STYLE: &str = "\
 .tip.lack{fill:#c0392b}
 ";
 
+// Only in pictures with a step of this kind.
+const UNLOCK_STYLE: &str = "\
+text.unlock-ink{fill:#8f3d2e}path.unlock-ink{stroke:#c96a58}
+";
+const LOCK_STYLE: &str = "\
+text.lock-ink{fill:#2f4f8f}path.lock-ink{stroke:#5877c4}
+";
+
+// The styles of what only some pictures have: those of a class or a colour that a node has.
+fn more_styles(graph: &Graph) -> String {
+    let styles = [("public", PUBLIC_STYLE), ("missing", MISSING_STYLE), ("unlock-ink", UNLOCK_STYLE), ("lock-ink", LOCK_STYLE)];
+    let found = |name: &str| graph.nodes.iter().any(|node| class(node) == name || colour(node) == name);
+    styles.into_iter().filter(|(name, _)| found(name)).map(|(_, style)| style).collect()
+}
+
 // The left edge and the width of each rank's column, from 0 on.
 fn column_places(layout: &Layout, sizes: &[(f64, f64)]) -> Vec<(f64, f64)> {
     let mut links = vec![0usize; layout.ranks.len()];
@@ -125,8 +140,7 @@ pub fn frame(graph: &Graph, body: &str, width: f64, bottom: f64) -> String {
     let mut out = String::from("<svg xmlns=\"http://www.w3.org/2000/svg\" role=\"img\" aria-labelledby=\"title\" aria-describedby=\"told\"");
     out.push_str(&format!(" width=\"{width:.0}\" height=\"{height:.0}\" viewBox=\"0 0 {width:.0} {height:.0}\">\n"));
     out.push_str(&format!("<title id=\"title\">{}</title>\n<desc id=\"told\">{}</desc>\n", escape(&graph.title), escape(&told.join("; "))));
-    let more = [("public", PUBLIC_STYLE), ("missing", MISSING_STYLE)].into_iter().filter(|(name, _)| graph.nodes.iter().any(|node| class(node) == *name));
-    out.push_str(&format!("<style>\n{STYLE}{}</style>\n", more.map(|(_, style)| style).collect::<String>()));
+    out.push_str(&format!("<style>\n{STYLE}{}</style>\n", more_styles(graph)));
     out.push_str(&format!("<rect class=\"paper\" x=\"0.5\" y=\"0.5\" width=\"{:.0}\" height=\"{:.0}\" rx=\"10\"/>\n", width - 1.0, height - 1.0));
     out.push_str(&format!("<text class=\"title\" x=\"{EDGE}\" y=\"42\">{}</text>\n{body}", escape(&heading)));
     for (i, note) in graph.notes.iter().enumerate() {

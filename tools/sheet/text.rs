@@ -1,11 +1,12 @@
 // The text notation of a sheet, read: one statement a line, every fault with its place.
 
-use super::model::{Entry, Sheet, MOST_ENTRIES, MOST_HEARD, MOST_ITEMS};
+use super::model::{Entry, Half, Sheet, MOST_ENTRIES, MOST_HEARD, MOST_ITEMS};
 use super::words::{decimal, end_of, fault, line, quoted, utf8, Fault, Line, Place, Word};
 use std::collections::HashMap;
 
+// private, public, lock and long aren't reserved: they stand only where no name can, so that older texts with these names stay good.
 const RESERVED: [&str; 7] = ["zero", "atom", "pair", "seal", "sum", "heard", "goal"];
-const KINDS: &str = "expected zero, atom, pair, seal or sum";
+const KINDS: &str = "zero, atom, pair, seal, sum, private, public or lock";
 
 // The least number that an atom without one gets.
 const LEAST_OWN: u32 = 1000;
@@ -17,14 +18,14 @@ pub struct Text {
     pub notes: Vec<Fault>,
 }
 
-// What has been read so far. `named` gives a name's entry and line; `goal` the goal and its line. `atoms` has the name with which
-// each written atom number first stands; `unnumbered` the atoms that get a number at the end.
+// What has been read so far. `named` gives a name's entry and line; `goal` the goal and its line. `numbered` has the name with which
+// each atom and half that is written with its number first stands; `unnumbered` the atoms that get a number at the end.
 #[derive(Default)]
 struct Reader {
     entries: Vec<Entry>,
     names: Vec<Option<String>>,
     named: HashMap<String, (usize, usize)>,
-    atoms: HashMap<u32, Option<String>>,
+    numbered: HashMap<String, Option<String>>,
     unnumbered: Vec<usize>,
     notes: Vec<Fault>,
     heard: Vec<usize>,
@@ -53,22 +54,29 @@ fn ends(line: &Line, position: usize, what: &str) -> Result<(), Fault> {
     }
 }
 
-fn atom_number(word: Word) -> Result<u32, Fault> {
-    match decimal(word.text).map(u32::try_from) {
+// The number of an atom or a key pair, which is at most `most`.
+fn own_number<T: TryFrom<usize> + std::fmt::Display>(word: Word, most: T) -> Result<T, Fault> {
+    match decimal(word.text).map(T::try_from) {
         Some(Ok(number)) => Ok(number),
-        Some(Err(_)) => fault(word.place, format!("the number {} is out of range, expected 0 to {}", shown_number(word.text), u32::MAX)),
-        None => fault(word.place, format!("found {}, expected a number from 0 to {}", quoted(word.text), u32::MAX)),
+        Some(Err(_)) => fault(word.place, format!("the number {} is out of range, expected 0 to {most}", shown_number(word.text))),
+        None => fault(word.place, format!("found {}, expected a number from 0 to {most}", quoted(word.text))),
     }
 }
 
 // The atom of a line that has its number: in the long record where long stands behind the number, or where the number needs it.
 fn atom(line: &Line) -> Result<Entry, Fault> {
-    let number = atom_number(word(line, 2, "the atom's number")?)?;
+    let number = own_number(word(line, 2, "the atom's number")?, u32::MAX)?;
     match line.words.get(3) {
         None => Ok(Entry::atom(number)),
         Some(word) if word.text == "long" => ends(line, 4, "long").map(|()| Entry::Atom { number, long: true }),
         Some(word) => fault(word.place, format!("found {}, expected long or the line's end after the atom's number", quoted(word.text))),
     }
+}
+
+// The half of a line, whose number is the key pair's.
+fn half(line: &Line, private: bool) -> Result<Entry, Fault> {
+    let number = own_number(word(line, 2, "the key pair's number")?, u16::MAX)?;
+    ends(line, 3, "the key pair's number").map(|()| Entry::Half(Half { private, number }))
 }
 
 // The digits of a number as written, cut when there are many.
@@ -129,6 +137,16 @@ impl Reader {
         Ok((one, other))
     }
 
+    // The message and the key of a lock. The key's own line is private or public; a sum that is the same term won't do.
+    fn lock(&self, line: &Line) -> Result<Entry, Fault> {
+        let (message, key) = self.two(line, "lock", "the message", "the key")?;
+        if self.entries[key].half().is_some() {
+            return Ok(Entry::Lock(message, key));
+        }
+        let found = word(line, 3, "the key")?;
+        fault(found.place, format!("wrong half: the key {} isn't a half, expected an entry whose own line is private or public", quoted(found.text)))
+    }
+
     fn items(&self, words: &[Word]) -> Result<Vec<usize>, Fault> {
         if let Some(word) = words.get(MOST_ITEMS) {
             return fault(word.place, format!("found {} items in a sum, expected at most {MOST_ITEMS}", words.len()));
@@ -138,7 +156,7 @@ impl Reader {
 
     // The term of an entry's line.
     fn term(&self, line: &Line) -> Result<Entry, Fault> {
-        let kind = word(line, 1, "zero, atom, pair, seal or sum after the label")?;
+        let kind = word(line, 1, &format!("{KINDS} after the label"))?;
         match kind.text {
             "zero" => ends(line, 2, "zero").map(|()| Entry::Zero),
             "atom" if line.words.len() == 2 => Ok(Entry::atom(LEAST_OWN)),
@@ -146,19 +164,21 @@ impl Reader {
             "pair" => self.two(line, "pair", "the left entry", "the right entry").map(|(l, r)| Entry::Pair(l, r)),
             "seal" => self.two(line, "seal", "the message", "the key").map(|(m, k)| Entry::Seal(m, k)),
             "sum" => self.items(line.words.get(2..).unwrap_or(&[])).map(Entry::Sum),
-            other => fault(kind.place, format!("unknown word {}, {KINDS}", quoted(other))),
+            "private" | "public" => half(line, kind.text == "private"),
+            "lock" => self.lock(line),
+            other => fault(kind.place, format!("unknown word {}, expected {KINDS}", quoted(other))),
         }
     }
 
-    // Takes a written atom number, and notes a second name for it.
-    fn note(&mut self, atom: u32, name: Option<&String>, place: Place) {
-        let first = self.atoms.entry(atom).or_insert_with(|| name.cloned());
+    // Takes an atom or a half as written, and notes a second name for it.
+    fn note(&mut self, written: &str, name: Option<&String>, place: Place) {
+        let first = self.numbered.entry(written.to_string()).or_insert_with(|| name.cloned());
         match (first, name) {
             (Some(first), Some(name)) if first != name => {
                 let line = self.named.get(first).map_or(0, |(_, line)| *line);
                 let both = format!("{} and {} (line {line})", quoted(name), quoted(first));
-                let message = format!("note: {both} are one term, since both are atom {atom}; without a number an atom is like no other");
-                self.notes.push(Fault { place, message });
+                let other = if written.starts_with("atom") { "; without a number an atom is like no other" } else { "" };
+                self.notes.push(Fault { place, message: format!("note: {both} are one term, since both are {written}{other}") });
             }
             (first, _) => *first = first.take().or_else(|| name.cloned()),
         }
@@ -166,9 +186,10 @@ impl Reader {
 
     // Gives each atom without a number the least one from 1000 on that no other has.
     fn number_atoms(&mut self) {
-        let free = (LEAST_OWN..).filter(|number| !self.atoms.contains_key(number));
-        for (entry, number) in self.unnumbered.iter().zip(free) {
-            self.entries[*entry] = Entry::atom(number);
+        let taken = |atom: &Entry| atom.numbered().map_or(false, |written| self.numbered.contains_key(&written));
+        let free = (LEAST_OWN..).map(Entry::atom).filter(|atom| !taken(atom));
+        for (entry, atom) in self.unnumbered.iter().zip(free) {
+            self.entries[*entry] = atom;
         }
     }
 
@@ -179,9 +200,9 @@ impl Reader {
         if number == MOST_ENTRIES {
             return fault(first.place, format!("found entry line {}, expected at most {MOST_ENTRIES}", number + 1));
         }
-        match term.number() {
+        match term.numbered() {
             Some(_) if line.words.len() == 2 => self.unnumbered.push(number),
-            Some(atom) => self.note(atom, name.as_ref(), first.place),
+            Some(written) => self.note(&written, name.as_ref(), first.place),
             None => (),
         }
         if let Some(name) = &name {

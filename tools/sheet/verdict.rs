@@ -50,6 +50,8 @@ fn rung(bytes: &[u8]) -> Option<Rung> {
         4 => (Rule::Join, vec![number(4), number(6)]),
         5 => (Rule::Seal, vec![number(4), number(6)]),
         6 => (Rule::Sum, members(&bytes[8..RUNG_BYTES])),
+        7 => (Rule::Unlock, vec![number(4), number(6)]),
+        8 => (Rule::Lock, vec![number(4), number(6)]),
         _ => return None,
     };
     Some(Rung { head: number(0), rule, sources })
