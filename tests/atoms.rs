@@ -3,6 +3,7 @@
 
 #[allow(dead_code)] // each test uses a part
 mod cards;
+mod checks;
 mod plain;
 mod ran;
 #[allow(dead_code)]
@@ -10,38 +11,12 @@ mod sheets;
 mod tally;
 
 use cards::card_of;
-use ran::Run;
+use checks::Checks;
 use sheets::{entries_over, sheet, Entry, Random};
 use std::path::PathBuf;
 use tally::Tally;
 
-struct Checks {
-    tool: PathBuf,
-    dir: PathBuf,
-    tally: Tally,
-}
-
-impl Run {
-    fn text(&self) -> String {
-        String::from_utf8_lossy(&self.out).into_owned()
-    }
-}
-
 impl Checks {
-    fn check(&mut self, what: &str, holds: bool) {
-        self.tally.check(what, holds);
-    }
-
-    fn run(&self, words: &[&str], input: &[u8]) -> Run {
-        ran::run(&self.tool, &self.dir, words, input)
-    }
-
-    // The text assembles to these bytes without a word, or with this note.
-    fn assembles(&mut self, text: &str, bytes: &[u8], note: &str) {
-        let run = self.run(&["assemble"], text.as_bytes());
-        self.check(&format!("{text:?}: {:02x?} {}", run.out, run.err), run.status == 0 && run.out == bytes && run.err == note);
-    }
-
     // Three commands refuse the bytes with these words.
     fn refuses(&mut self, what: &str, bytes: &[u8], said: &str) {
         for words in [["disassemble", "-"], ["judge", "-"], ["draw", "-"]] {
@@ -114,8 +89,8 @@ const FAULTS: [(&str, usize, &str); 14] = [
     ("a zero long", 8, "found \"long\", expected the line's end after zero"),
     ("a pair k k long", 12, "found \"long\", expected the line's end after the two entries of a pair"),
     ("a sum k long", 9, "entry \"long\" isn't declared above, expected the number or name of an entry declared above"),
-    ("a long 7", 3, "unknown word \"long\", expected zero, atom, pair, seal or sum"),
-    ("long", 5, "found the line's end, expected zero, atom, pair, seal or sum after the label"),
+    ("a long 7", 3, "unknown word \"long\", expected zero, atom, pair, seal, sum, private, public or lock"),
+    ("long", 5, "found the line's end, expected zero, atom, pair, seal, sum, private, public or lock after the label"),
     ("a atom 4294967296", 8, "the number 4294967296 is out of range, expected 0 to 4294967295"),
     ("a atom 18446744073709551617 long", 8, "the number 18446744073709551617 is out of range, expected 0 to 4294967295"),
 ];

@@ -78,8 +78,9 @@ fn card(name: &str, (entries, heard, goal): Parts) {
 
 fn main() {
     // `mixed` and `stuck` end out of reach, and so does every cut of the two cards: since request E5 such a call makes one sum test more, of the goal.
-    // `serials` is `names` with every atom in the long record of request E10.
-    let kinds: [(&str, fn(usize) -> Parts); 8] = [
+    // `serials` is `names` with every atom in the long record of request E10. `locks` and `openers` have the key pairs of request E6: `locks` is the work
+    // of `seals` by rule 7, and in `openers` the half that opens a lock is to be found above it.
+    let kinds: [(&str, fn(usize) -> Parts); 10] = [
         ("joins", kinds::joins),
         ("sums", kinds::sums),
         ("seals", kinds::seals),
@@ -88,6 +89,8 @@ fn main() {
         ("random", kinds::random),
         ("names", kinds::names),
         ("serials", kinds::serials),
+        ("locks", kinds::locks),
+        ("openers", kinds::openers),
     ];
     println!("                              plain Rust, us            ratio to");
     println!("sheet       n   library us   by value       lent   by value   lent   verdict and rungs");

@@ -1,20 +1,23 @@
-// The verdict, by brute force: the whole answer and buffer recomputed from the documents' text (reading.rs) and compared with the library, and
-// on the smallest sheets the claim "out of reach" tried against everything that can be made off the sheet up to a size. On larger sheets, where sums
-// can't be tried one by one, what the text says of used set and remainder is checked of the library's bytes.
+// The verdict, by brute force: the whole answer and buffer recomputed from the documents' text (reading.rs) and compared with the library, the rungs
+// replayed, and on the smallest sheets the claim "out of reach" tried against everything that can be made off the sheet up to a size. On larger sheets,
+// where sums can't be tried one by one, what the text says of verdict, used set and remainder is checked of the library's bytes.
 
 #[allow(dead_code)] // each test uses a part
 mod sheets;
 #[allow(dead_code)]
+mod cards;
+#[allow(dead_code)]
 mod kinds;
 mod larger;
+mod locks;
+mod off;
+mod plain;
 #[allow(dead_code)]
 mod reading;
 mod records;
 use larger::Larger;
-use reading::{add, all_sums, expected, highest, members, missing_part, one, read, set_bytes, single, size, standard, start, work, Answer, Piece, Set, Term};
+use reading::{add, all_sums, expected, highest, members, missing_part, read, replay, set_bytes, standard, work, Answer, Set, Term};
 use sheets::{damage, random_entries, sheet, Entry, Random, ATOMS, FRONT};
-use std::collections::BTreeSet;
-use std::rc::Rc;
 
 extern "C" {
     fn zuwendryk_verdict(sheet: *const u8, sheet_len: usize, cut: u32, budget: u32, buffer: *mut u8, buffer_len: usize) -> u32;
@@ -28,45 +31,6 @@ fn verdict(s: &[u8], cut: u32, budget: u32, buffer: &mut [u8]) -> u32 {
 // The length of a buffer for 256 rungs.
 const ROOM: usize = FRONT + 40 * 256;
 
-// ---- off the sheet: everything that can be made up to a size
-
-// Does a listener with these terms get the goal, when pairs and seals of known terms and sums of two known terms are added as long as they
-// are small? What is found is gained for certain; what isn't, only up to the size.
-fn gains(start: &[Term], goal: &Term, largest: usize, most: usize) -> bool {
-    let mut known: BTreeSet<Term> = start.iter().cloned().collect();
-    known.insert(Rc::new(BTreeSet::new()));
-    loop {
-        if known.contains(goal) {
-            return true;
-        }
-        let all: Vec<Term> = known.iter().cloned().collect();
-        let mut new: Vec<Term> = vec![];
-        for a in &all {
-            match single(a) {
-                Some(Piece::Pair(l, r)) => new.extend([l.clone(), r.clone()]),
-                Some(Piece::Seal(m, k)) if known.contains(k) => new.push(m.clone()),
-                _ => {}
-            }
-            for b in &all {
-                new.push(add(a, b));
-                if size(a) + size(b) < largest {
-                    new.push(one(Piece::Pair(a.clone(), b.clone())));
-                    new.push(one(Piece::Seal(a.clone(), b.clone())));
-                }
-            }
-        }
-        let before = known.len();
-        for t in new {
-            if known.len() < most && size(&t) <= largest {
-                known.insert(t);
-            }
-        }
-        if known.len() == before {
-            return known.contains(goal);
-        }
-    }
-}
-
 // ---- the comparison
 
 struct Tally {
@@ -77,6 +41,8 @@ struct Tally {
     used: u64, // out of reach, with a used set that isn't empty
     stopped: u64,
     refused: u64,
+    rules: [u64; 9],     // rungs by each rule
+    refusals: [u64; 13], // calls refused by each number
     // ends the test at the first failure, for libraries that are wrong on purpose
     first_only: bool,
 }
@@ -97,11 +63,26 @@ impl Tally {
             _ => self.stopped += 1,
         }
         self.used += u64::from(number / 1000 == 2 && buffer[32..64] != [0; 32]);
+        if number >= 1000 {
+            buffer[FRONT..].chunks(40).take(number as usize % 1000).for_each(|rung| self.rules[usize::from(rung[3])] += 1);
+            self.replayed(what, s, cut as usize, got, &area[16..16 + length]);
+        } else {
+            self.refusals[number as usize] += 1;
+        }
         if got != number || area[16..16 + length] != buffer[..] || !guarded {
             let places = (0..length).filter(|&i| area[16 + i] != buffer[i]).take(4).collect::<Vec<usize>>();
             let sheet = if s.len() < 200 { format!("{s:?}") } else { format!("of {} bytes", s.len()) };
             let call = format!("cut {cut} budget {budget} length {length} sheet {sheet}");
             self.fail(&format!("{what}: library {got}, text {number}, bytes differ at {places:?}, guards kept: {guarded}; {call}"));
+        }
+    }
+
+    // The library's rungs replay, and they gain the goal exactly where it is reached.
+    fn replayed(&mut self, what: &str, s: &[u8], cut: usize, answer: u32, buffer: &[u8]) {
+        let (sheet, rungs) = (read(s), 40 * (answer as usize % 1000));
+        let replayed = buffer.get(FRONT..FRONT + rungs).map(|rungs| replay(&sheet, cut, rungs));
+        if !matches!(replayed, Some(Ok(state)) if state.contains(&sheet.terms[sheet.goal]) == (answer / 1000 == 1)) {
+            self.fail(&format!("{what}: the rungs of {answer} at cut {cut} don't replay; sheet {s:?}"));
         }
     }
 
@@ -297,10 +278,11 @@ fn every_pair(t: &mut Tally, r: &mut Random) -> u64 {
     tried
 }
 
-// Larger sheets: what the request says of the pair of used set and remainder, of which there is one, holds of the library's bytes.
+// Larger sheets: what the documents say of the verdict and its rungs, and of the pair of used set and remainder, of which there is one, holds of the
+// library's bytes.
 fn larger_sheets(t: &mut Tally) {
-    for seed in 0..450 {
-        let (entries, heard, goal) = larger_sheet([kinds::drawn, kinds::labelled, kinds::lacking][seed as usize % 3], seed);
+    for seed in 0..600 {
+        let (entries, heard, goal) = larger_sheet([kinds::drawn, kinds::labelled, kinds::lacking, kinds::locked][seed as usize % 4], seed);
         let s = sheet(&entries, &heard, goal);
         let larger = Larger::new(&s);
         for cut in [0, heard.len() / 4, heard.len() / 2, heard.len()] {
@@ -308,36 +290,13 @@ fn larger_sheets(t: &mut Tally) {
                 let mut buffer = vec![0xa5; FRONT + 40 * budget];
                 let answer = verdict(&s, cut as u32, budget as u32, &mut buffer);
                 t.calls += 1;
-                if !larger.holds(cut, answer, &buffer) {
+                if !larger.judged(cut, answer, &buffer) || !larger.holds(cut, answer, &buffer) {
                     let sets = [0..32, 32..64, 64..FRONT].map(|place| members(&buffer[place]));
                     t.fail(&format!("{entries:?} heard {heard:?} goal {goal} cut {cut} budget {budget}: {answer}, gained, used and remainder {sets:?}"));
                 }
             }
         }
     }
-}
-
-// Out of reach, tried against what can be made off the sheet.
-fn off_sheet(r: &mut Random) -> (u64, u64) {
-    let (mut tried, mut failed) = (0, 0);
-    while tried < 400 {
-        let (entries, heard, goal) = random_entries(r, 5);
-        let s = sheet(&entries, &heard, goal);
-        let read = read(&s);
-        let cut = read.heard.len();
-        let (answer, _, _) = work(&read, cut, 256);
-        let start: Vec<Term> = start(&read, cut).iter().map(|&i| read.terms[i].clone()).collect();
-        if start.iter().any(|x| size(x) > 7) {
-            continue;
-        }
-        tried += 1;
-        let found = gains(&start, &read.terms[read.goal], 7, 120);
-        if found && !matches!(answer, Answer::Reached) {
-            failed += 1;
-            println!("off the sheet the goal is gained: {entries:?} heard {heard:?} goal {goal}");
-        }
-    }
-    (tried, failed)
 }
 
 // The flight card's cases, each atom with 1,000 and its old number, but for case 9.
@@ -570,6 +529,7 @@ fn stated_cases(t: &mut Tally) {
     orders(t);
     zero_otherwise(t);
     records::stated_cases(t);
+    locks::stated_cases(t);
     large(t);
     large_missing_parts(t);
     every_entry(t);
@@ -578,7 +538,7 @@ fn stated_cases(t: &mut Tally) {
 
 fn main() {
     let first_only = std::env::args().nth(1).as_deref() == Some("first");
-    let mut t = Tally { calls: 0, failed: 0, reached: 0, out: 0, used: 0, stopped: 0, refused: 0, first_only };
+    let mut t = Tally { calls: 0, failed: 0, reached: 0, out: 0, used: 0, stopped: 0, refused: 0, rules: [0; 9], refusals: [0; 13], first_only };
     let mut r = Random(0x2545f4914f6cdd1d);
     stated_cases(&mut t);
     small_sheets(&mut t, &mut r);
@@ -587,13 +547,16 @@ fn main() {
     names_as_heard(&mut t);
     larger_sheets(&mut t);
     records::random_sheets(&mut t, &mut r);
+    locks::random_sheets(&mut t, &mut r);
     let pairs = every_pair(&mut t, &mut r);
-    let (tried, failed) = off_sheet(&mut r);
+    let (tried, failed) = off::tried(&mut r);
     println!("brute force: {} calls, {} reached, {} out of reach, {} of them with a used set, {} stopped, {} refused", t.calls, t.reached, t.out, t.used, t.stopped, t.refused);
+    println!("rungs by rules 1 to 8: {:?}; refusals 1 to 12: {:?}", &t.rules[1..], &t.refusals[1..]);
     println!("off the sheet: {tried} tried; every pair of used set and remainder: {pairs} sheets");
     let bad = t.failed + failed;
     println!("brute: {} passed, {} failed", t.calls + tried - bad.min(t.calls + tried), bad);
-    if bad > 0 || t.reached < 1000 || t.out < 1000 || t.used < 1000 || t.stopped < 1000 || t.refused < 1000 {
+    let seen = [t.reached, t.out, t.used, t.stopped, t.refused, t.refusals[12]].into_iter().chain(t.rules[1..].iter().copied());
+    if bad > 0 || seen.min() < Some(1000) {
         std::process::exit(1);
     }
 }

@@ -1,16 +1,17 @@
-// Random good sheets with and without public atoms, and the card of a sheet by the plain verdict. Shared by the tests of the tool.
+// Random good sheets with and without public atoms, key pairs and locks, and the card of a sheet by the plain verdict. Shared by the tests of the tool and
+// by the brute-force test.
 
 use super::plain;
 use super::sheets::{random_entries, sheet, Entry, Random, FRONT};
 
 // One rung of the output buffer as a line of the card.
-fn rung_line(rung: &[u8]) -> String {
+pub fn rung_line(rung: &[u8]) -> String {
     let number = |at: usize| u16::from_be_bytes([rung[at], rung[at + 1]]);
-    let words = ["", "left", "right", "open", "join", "seal", "sum"];
+    let words = ["", "left", "right", "open", "join", "seal", "sum", "unlock", "lock"];
     let rule = usize::from(number(2));
     let sources: Vec<u16> = match rule {
         1 | 2 => vec![number(4)],
-        3..=5 => vec![number(4), number(6)],
+        3..=5 | 7 | 8 => vec![number(4), number(6)],
         _ => (0..256u16).filter(|e| rung[8 + usize::from(e / 8)] >> (e % 8) & 1 == 1).collect(),
     };
     let list: String = sources.iter().map(|source| format!(" {source}")).collect();
@@ -46,17 +47,23 @@ fn any_atom(r: &mut Random) -> Entry {
     if r.below(4) == 0 { Entry::Long(number) } else { Entry::Atom(number) }
 }
 
-// A good sheet with many entries, long sums and many heard messages.
+// A good sheet with many entries, long sums, halves of 16 key pairs, locks under the first half and others, and many heard messages.
 pub fn large(r: &mut Random) -> Vec<u8> {
     let n = 200 + r.below(57);
-    let entries: Vec<Entry> = (0..n)
-        .map(|i| match (i, r.below(4)) {
-            (0, _) | (_, 0) => any_atom(r),
-            (_, 1) => Entry::Pair(r.below(i) as u16, r.below(i) as u16),
-            (_, 2) => Entry::Seal(r.below(i) as u16, r.below(i) as u16),
-            _ => Entry::Sum((0..r.below(65)).map(|_| r.below(i) as u16).collect()),
-        })
-        .collect();
+    let mut halves: Vec<u16> = vec![];
+    let mut entry = |i: u64| match (i, r.below(6)) {
+        (0, _) | (_, 0) => {
+            halves.push(i as u16);
+            let number = r.below(16) as u16 * 4369;
+            if r.below(2) == 0 { Entry::Private(number) } else { Entry::Public(number) }
+        }
+        (_, 1) => any_atom(r),
+        (_, 2) => Entry::Pair(r.below(i) as u16, r.below(i) as u16),
+        (_, 3) => Entry::Seal(r.below(i) as u16, r.below(i) as u16),
+        (_, 4) => Entry::Lock(r.below(i) as u16, halves[r.below(halves.len() as u64) as usize]),
+        _ => Entry::Sum((0..r.below(65)).map(|_| r.below(i) as u16).collect()),
+    };
+    let entries: Vec<Entry> = (0..n).map(&mut entry).collect();
     let heard: Vec<u16> = (0..r.below(257)).map(|_| r.below(n) as u16).collect();
     sheet(&entries, &heard, r.below(n) as u16)
 }

@@ -7,7 +7,7 @@ mod sheets;
 #[allow(dead_code)]
 mod kinds;
 use kinds::Parts;
-use sheets::{damage, entries_over, full_sheet, refusal, refusal_by, sheet, Entry, Random, FRONT};
+use sheets::{damage, full_sheet, random_entries, refusal, refusal_by, sheet, Entry, Random, ATOM_LENGTHS, FRONT, LONGEST};
 use std::process::Command;
 
 extern "C" {
@@ -28,14 +28,20 @@ fn earlier(s: &[u8], cut: u32, budget: u32, out: &mut [u8]) -> u32 {
 
 // ---- answers and bytes
 
-// What the change leaves alone, to be said anew for each change. Request E10 lets an atom's record have length 5 and a sheet 34,446 bytes, and nothing
-// else. So answers and buffers are the earlier ones on each sheet of at most 34,444 bytes in whose records, as far as the table looks, no atom has length 5.
+// What the change leaves alone, to be said anew for each change. Request E6 adds the kinds 5, 6 and 7, and with them refusal 12 and the rules 7 and 8. So
+// answers and buffers are the earlier ones on each sheet in whose records, as far as the table looks, no kind is 5 to 7.
 //
-// A damaged sheet may be another. It is left out where the two tables, the earlier and the present, give different numbers, and this is exact: there the
-// answers have to differ. Where both refuse the sheet with one number, each library has to answer it. Where neither refuses it, the earlier table says that
-// it has at most 34,444 bytes and no atom of length 5. Whether it is left out or not, each library is held to its own table.
+// Another sheet is left out where the two tables, the earlier and the present, give different numbers, and this is exact: there the answers have to
+// differ. Where both refuse the sheet with one number, each library has to answer it. Where neither refuses it, the earlier table says that it has no
+// record of a kind over 4. Whether it is left out or not, each library is held to its own table.
 fn refusal_earlier(s: &[u8]) -> u32 {
-    refusal_by(s, 34444, &[3])
+    refusal_by(s, LONGEST, &ATOM_LENGTHS, 4)
+}
+
+// Has the good sheet a record of kind 5 to 7?
+fn has_locks(s: &[u8]) -> bool {
+    let number = |at: usize| usize::from(u16::from_be_bytes([s[at], s[at + 1]]));
+    (0..number(4)).any(|i| matches!(s[number(10 + 4 * i)], 5..=7))
 }
 
 #[derive(Default)]
@@ -43,6 +49,7 @@ struct Tally {
     verdicts: [u64; 4], // refused, reached, out of reach, stopped
     sheets: u64,
     left_out: u64,
+    now_good: u64, // of those left out
     failed: u64,
 }
 
@@ -77,6 +84,8 @@ impl Tally {
         }
         if tables[0] != tables[1] {
             self.left_out += 1;
+            self.now_good += u64::from(tables[0] == 0);
+            self.own_tables(s, tables, r);
             return;
         }
         let h = if s.len() >= 8 { u32::from(u16::from_be_bytes([s[6], s[7]])).min(256) } else { 0 };
@@ -88,59 +97,89 @@ impl Tally {
         }
     }
 
-    // A good sheet that the change leaves alone; the same with an atom of length 5, which it doesn't; and a damaged one, of which either may hold.
+    // A sheet that is left out: each library's verdict is refused with the number of its own table and keeps every byte, or it is a verdict where that
+    // table has none.
+    fn own_tables(&mut self, s: &[u8], tables: [u32; 2], r: &mut Random) {
+        let budget = r.below(257) as u32;
+        let before: Vec<u8> = (0..FRONT + 40 * budget as usize).map(|i| (i * 37 + 11) as u8).collect();
+        let calls: [fn(&[u8], u32, u32, &mut [u8]) -> u32; 2] = [now, earlier];
+        for (call, table) in calls.into_iter().zip(tables) {
+            let mut out = before.clone();
+            let answer = call(s, 0, budget, &mut out);
+            if if table == 0 { answer < 1000 } else { answer != table || out != before } {
+                self.fail(&format!("sheet {s:?} budget {budget}: answers {answer}, by its own table {table}, bytes kept: {}", out == before));
+            }
+        }
+    }
+
+    // A good sheet that the change leaves alone; the same with locks, which it doesn't; and a damaged one of each, of which either may hold.
     fn all(&mut self, good: Vec<u8>, r: &mut Random) {
         let left_out = self.left_out;
         self.sheet(&good, r);
-        if self.left_out > left_out || refusal(&good) != 0 {
-            self.fail(&format!("sheet {good:?} is refused or left out"));
+        if self.left_out > left_out || refusal(&good) != 0 || has_locks(&good) {
+            self.fail(&format!("sheet {good:?} is refused, left out or has locks"));
         }
-        if let Some(long) = with_long_record(&good) {
-            self.sheet(&long, r);
+        let locked = with_locks(&good);
+        self.sheet(&locked, r);
+        for s in [good, locked] {
+            let bad = damage(r, s);
+            self.sheet(&bad, r);
         }
-        let bad = damage(r, good);
-        self.sheet(&bad, r);
     }
 }
 
-// The good sheet with an atom in the place of its first pair or seal, whose record has the long record's length. There may be none.
-fn with_long_record(s: &[u8]) -> Option<Vec<u8>> {
+// The good sheet with halves for some of its atoms in short records, locks for its seals, and of its sums of one item some are halves too. So some locks
+// have a half for their key, and others don't.
+fn with_locks(s: &[u8]) -> Vec<u8> {
     let number = |at: usize| usize::from(u16::from_be_bytes([s[at], s[at + 1]]));
-    let at = (0..number(4)).map(|i| number(10 + 4 * i)).find(|&at| matches!(s[at], 2 | 3))?;
-    Some([&s[..at], &[1], &s[at + 1..]].concat())
+    let mut t = s.to_vec();
+    for i in 0..number(4) {
+        let (at, length) = (number(10 + 4 * i), number(12 + 4 * i));
+        t[at] = match (s[at], length, i % 4) {
+            (1 | 4, 3, 0) => 5,
+            (1 | 4, 3, 1) => 6,
+            (3, ..) => 7,
+            (kind, ..) => kind,
+        };
+    }
+    t
 }
 
-// Atom numbers that fit the short record: two of atoms on the hull label, two that have a byte of these, the last, and two more.
-const SHORT: [u32; 7] = [0, 255, 256, 65280, 1000, 1001, 65535];
-
-// A random sheet whose atoms have short records.
-fn short_records(r: &mut Random, most: u64) -> Vec<u8> {
-    let (entries, heard, goal) = entries_over(r, most, &SHORT);
-    let short = |e: Entry| if let Entry::Long(a) = e { Entry::Atom(a) } else { e };
-    sheet(&entries.into_iter().map(short).collect::<Vec<Entry>>(), &heard, goal)
-}
-
+// The sheet without locks: an atom for each half, a seal for each lock.
 fn made((entries, heard, goal): Parts) -> Vec<u8> {
-    sheet(&entries, &heard, goal)
+    let other = |e: Entry| match e {
+        Entry::Private(a) => Entry::Atom(u32::from(a)),
+        Entry::Public(a) => Entry::Long(65536 + u32::from(a)),
+        Entry::Lock(m, k) => Entry::Seal(m, k),
+        _ => e,
+    };
+    sheet(&entries.into_iter().map(other).collect::<Vec<Entry>>(), &heard, goal)
 }
 
 fn answers(t: &mut Tally) {
     let mut r = Random(0x9e3779b97f4a7c15);
     for _ in 0..4000 {
-        t.all(short_records(&mut r, 12), &mut r);
+        let parts = random_entries(&mut r, 12);
+        t.all(made(parts), &mut r);
     }
     for seed in 0..2400 {
         let n = 8 + r.below(249) as usize;
-        t.all(made([kinds::drawn, kinds::labelled, kinds::lacking][seed as usize % 3](n, seed)), &mut r);
+        t.all(made([kinds::drawn, kinds::labelled, kinds::lacking, kinds::locked][seed as usize % 4](n, seed)), &mut r);
     }
-    for kind in [kinds::joins, kinds::sums, kinds::seals, kinds::mixed, kinds::stuck, kinds::names, kinds::longest] {
+    for kind in [kinds::joins, kinds::sums, kinds::seals, kinds::mixed, kinds::stuck, kinds::names, kinds::serials, kinds::longest] {
         for n in (32..=256).step_by(2) {
             t.all(made(kind(n)), &mut r);
         }
     }
-    // of 34,444 bytes, and damaged now and then of one or two more
-    for i in 0..100 {
+    // of 34,446 bytes and of two fewer
+    for i in 0..50 {
+        t.all(full_sheet(Entry::Long(65536 + 1001), [255, 254], i), &mut r);
         t.all(full_sheet(Entry::Atom(1001), [255, 254], i), &mut r);
+    }
+    // good sheets with locks, which the earlier library refuses
+    for _ in 0..1000 {
+        let (entries, heard, goal) = random_entries(&mut r, 12);
+        t.sheet(&sheet(&entries, &heard, goal), &mut r);
     }
 }
 
@@ -196,8 +235,9 @@ fn main() {
     let [refused, reached, out, stopped] = t.verdicts;
     let calls = refused + reached + out + stopped;
     println!("compare: {} sheets, of which {} are left out, since the change has another answer for them", t.sheets, t.left_out);
+    println!("compare: {} of those left out are good now", t.now_good);
     println!("compare: {calls} calls, {reached} reached, {out} out of reach, {stopped} stopped, {refused} refused; {} failed", t.failed);
-    if t.failed > 0 || t.verdicts.iter().any(|&v| v < 10_000) || t.left_out < 1000 {
+    if t.failed > 0 || t.verdicts.iter().any(|&v| v < 10_000) || t.left_out < 1000 || t.now_good < 1000 {
         std::process::exit(1);
     }
     times(&std::env::args().skip(1).collect::<Vec<String>>());

@@ -54,6 +54,32 @@ static void atoms(void) {
     expect("the answer to a record of length 4", atom(7, 4, sizeof buffer), ZUWENDRYK_BAD_RECORD);
 }
 
+/* A sheet of one half that nobody heard: no number makes it a name. A longer record, as an atom may have, is none. */
+static void half(uint8_t kind, uint32_t number) {
+    uint8_t one[] = {'S', 'H', 'T', '1', 0, 1, 0, 0, 0, 0, 0, 14, 0, 3, kind, 0, 0, 0, 0};
+    one[15] = number >> 8 & 255u;
+    one[16] = number & 255u;
+    expect("the answer to a half", zuwendryk_verdict(one, 17, 0, 0, buffer, sizeof buffer), ZUWENDRYK_OUT_OF_REACH);
+    one[13] = 5;
+    expect("the validity of a half of length 5", zuwendryk_validate(one, 19), ZUWENDRYK_BAD_RECORD);
+}
+
+static void halves(void) {
+    for (uint32_t number = 0; number <= ZUWENDRYK_NAMES; number++) {
+        half(ZUWENDRYK_KIND_PRIVATE, number);
+        half(ZUWENDRYK_KIND_PUBLIC, number);
+    }
+    half(ZUWENDRYK_KIND_PUBLIC, 65535);
+}
+
+/* The last kind is a lock: the next one is no kind. */
+static void kinds(void) {
+    uint8_t one[] = {'S', 'H', 'T', '1', 0, 1, 0, 0, 0, 0, 0, 14, 0, 5, ZUWENDRYK_KIND_LOCK, 0, 0, 0, 0};
+    expect("the validity of a lock of nothing", zuwendryk_validate(one, sizeof one), ZUWENDRYK_FORWARD);
+    one[14] = ZUWENDRYK_KIND_LOCK + 1;
+    expect("the validity of a kind that there isn't", zuwendryk_validate(one, sizeof one), ZUWENDRYK_BAD_RECORD);
+}
+
 static void version(void) {
     char text[64];
     sprintf(text, "%d.%d.%d", ZUWENDRYK_VERSION_MAJOR, ZUWENDRYK_VERSION_MINOR, ZUWENDRYK_VERSION_PATCH);
@@ -64,6 +90,8 @@ int main(void) {
     sizes();
     version();
     atoms();
+    halves();
+    kinds();
     expect("the answer to a sheet of zeros", zuwendryk_verdict(sheet, sizeof sheet, 0, 0, buffer, sizeof buffer), ZUWENDRYK_NO_SHEET);
     expect("the answer to the last name on the hull label", alone(ZUWENDRYK_NAMES - 1, sizeof buffer), ZUWENDRYK_REACHED);
     expect("the answer to the first atom that is none", alone(ZUWENDRYK_NAMES, sizeof buffer), ZUWENDRYK_OUT_OF_REACH);

@@ -43,7 +43,7 @@ struct Said {
     missing: Vec<usize>,
 }
 
-const RULES: [&str; 6] = ["left", "right", "open", "join", "seal", "sum"];
+const RULES: [&str; 8] = ["left", "right", "open", "join", "seal", "sum", "unlock", "lock"];
 
 fn number(word: Option<&str>) -> Option<usize> {
     word?.parse().ok()
@@ -79,7 +79,8 @@ fn names(text: &str) -> HashMap<String, usize> {
 // A rung's line in names: its head, its rule's number and its sources.
 fn named_rung(line: &str, names: &HashMap<String, usize>) -> Option<Vec<usize>> {
     let (head, rest) = line.split_once(' ')?;
-    let forms = [("split left ", ""), ("split right ", ""), ("open ", " with "), ("join ", ", "), ("seal ", " under "), ("sum of ", ", ")];
+    let parts = [("split left ", ""), ("split right ", ""), ("open ", " with "), ("join ", ", "), ("seal ", " under "), ("sum of ", ", ")];
+    let forms = [&parts[..], &[("unlock ", " with "), ("lock ", " under ")]].concat();
     let (rule, sources) = forms.iter().enumerate().find_map(|(i, (start, _))| Some((i, rest.strip_prefix(start)?)))?;
     let mut rung = vec![*names.get(head)?, rule];
     // Also where an entry has this name: a sum of one term gains nothing new, so no rung is one.
@@ -294,7 +295,7 @@ fn examples(c: &mut Tally, p: &Paths) {
     let files = fs::read_dir(p.root.join("examples")).expect("the examples are there").filter_map(|file| Some(file.ok()?.path()));
     let mut sheets: Vec<PathBuf> = files.filter(|path| path.extension().map_or(false, |end| end == "sheet")).collect();
     sheets.sort();
-    c.check("the examples are there", sheets.len() >= 30);
+    c.check("the examples are there", sheets.len() >= 42);
     sheets.iter().for_each(|path| example(c, p, path));
 }
 
@@ -345,7 +346,7 @@ fn heads(entries: &[Entry]) -> Vec<usize> {
 // name, where the head is a public atom, the goal's, or named in those lines. They are the steps, or what is used and missing of the goal.
 fn same_lines(entries: &[Entry], heads: &[usize], before: &[usize], goal: usize, said: &Said) -> Vec<String> {
     let parts = |entry: &usize| match &entries[*entry] {
-        Entry::Pair(one, other) | Entry::Seal(one, other) => vec![usize::from(*one), usize::from(*other)],
+        Entry::Pair(one, other) | Entry::Seal(one, other) | Entry::Lock(one, other) => vec![usize::from(*one), usize::from(*other)],
         Entry::Sum(items) => items.iter().map(|item| usize::from(*item)).collect(),
         _ => vec![],
     };
@@ -548,14 +549,16 @@ fn forms(c: &mut Tally, p: &Paths) {
 // What examples/README.md shows is what is printed and drawn.
 fn shown(c: &mut Tally, p: &Paths) {
     let readme = fs::read_to_string(p.root.join("examples/README.md")).unwrap_or_default();
-    for (i, name) in ["examples/nsl-xor-calls.sheet", "examples/hull-label.sheet", "examples/flight-link-missing.sheet"].iter().enumerate() {
+    for (i, name) in ["nsl-xor-calls", "hull-label", "flight-link-missing", "flight-signed"].iter().enumerate() {
         let block = readme.split("```text\n").nth(i + 1).and_then(|rest| rest.split("```").next()).unwrap_or("");
-        let judged = run(&p.tool, &["judge", &p.root.join(name).to_string_lossy()], b"");
+        let judged = run(&p.tool, &["judge", &p.root.join(format!("examples/{name}.sheet")).to_string_lossy()], b"");
         c.check(&format!("examples/README.md shows for {name}\n{block}"), judged.out == block);
     }
-    let picture = fs::read_to_string(p.root.join("examples/flight-link-missing.svg")).unwrap_or_default();
-    let drawn = run(&p.tool, &["draw", &p.root.join("examples/flight-link-missing.sheet").to_string_lossy()], b"");
-    c.check("examples/flight-link-missing.svg", drawn.out == picture && readme.contains("(flight-link-missing.svg)"));
+    for name in ["flight-link-missing", "flight-signed"] {
+        let picture = fs::read_to_string(p.root.join(format!("examples/{name}.svg"))).unwrap_or_default();
+        let drawn = run(&p.tool, &["draw", &p.root.join(format!("examples/{name}.sheet")).to_string_lossy()], b"");
+        c.check(&format!("examples/{name}.svg"), drawn.out == picture && readme.contains(&format!("({name}.svg)")));
+    }
 }
 
 // The version is the C header's, where the header has one.

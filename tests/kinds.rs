@@ -1,5 +1,6 @@
 // Kinds of sheets for the benchmarks: each takes a number of entries and gives entries, heard messages and goal. The cut is the number of messages.
-// Atoms have short records, but for those of `serials`, and numbers from 1,000 on, but for those of `names`, `serials`, `labelled` and `lacking`.
+// Atoms have short records, but for those of `serials`, and numbers from 1,000 on, but for those of `names`, `serials`, `labelled` and `lacking`. Key
+// pairs and locks stand in `locks`, `openers` and `locked` alone.
 
 use super::sheets::{Entry, Random};
 
@@ -34,6 +35,30 @@ pub fn sums(n: usize) -> Parts {
 pub fn seals(n: usize) -> Parts {
     let entries = (0..n as u16).map(|i| if i < 2 { atom(i) } else { Entry::Seal(if i == 2 { 0 } else { i - 1 }, 1) }).collect();
     (entries, vec![n as u16 - 1, 1], 0)
+}
+
+// An atom locked again and again under one public half; the outermost lock and the private half heard: n steps inwards.
+pub fn locks(n: usize) -> Parts {
+    let entry = |i: u16| match i {
+        0 => atom(0),
+        1 => Entry::Public(1000),
+        2 => Entry::Private(1000),
+        3 => Entry::Lock(0, 1),
+        _ => Entry::Lock(i - 1, 1),
+    };
+    ((0..n as u16).map(entry).collect(), vec![n as u16 - 1, 2], 0)
+}
+
+// A third public halves, a third locks of one message under them, and a third the private halves, above all locks. The locks and the private halves but
+// for the last are heard, from above. So every lock but the last could be opened, the lowest is, and the run ends by finding nothing.
+pub fn openers(n: usize) -> Parts {
+    let third = (n as u16 - 1) / 3;
+    let mut entries = vec![atom(0)];
+    entries.extend((0..third).map(Entry::Public));
+    entries.extend((0..third).map(|i| Entry::Lock(0, 1 + i)));
+    entries.extend((0..third).map(Entry::Private));
+    entries.extend((entries.len()..n).map(|i| atom(i as u16)));
+    (entries, (1 + third..3 * third).rev().collect(), 3 * third)
 }
 
 // Everything at once, and 256 heard messages over the upper half of the entries, so that the lower half is left to the steps. Nothing
@@ -111,6 +136,25 @@ pub fn labelled(n: usize, seed: u64) -> Parts {
     for i in (0..n).step_by(3) {
         if let Entry::Atom(a) = &mut entries[i] {
             *a = i as u32 % 16;
+        }
+    }
+    (entries, heard, goal)
+}
+
+// As drawn, with halves of a few key pairs in the places of some entries, and locks in the places of some pairs and seals.
+pub fn locked(n: usize, seed: u64) -> Parts {
+    let (mut entries, heard, goal) = drawn(n, seed);
+    let mut r = Random((n as u64) << 32 | seed << 16 | 0x10c5);
+    let mut halves: Vec<u16> = vec![];
+    for (i, entry) in entries.iter_mut().enumerate() {
+        let pair = [0, 7, 256, 65535][r.below(4) as usize];
+        match (i, r.below(6), &*entry) {
+            (0, _, _) | (_, 0, _) => *entry = if r.below(2) == 0 { Entry::Private(pair) } else { Entry::Public(pair) },
+            (_, 1..=3, Entry::Pair(a, _) | Entry::Seal(a, _)) => *entry = Entry::Lock(*a, halves[r.below(halves.len() as u64) as usize]),
+            _ => {}
+        }
+        if matches!(entry, Entry::Private(_) | Entry::Public(_)) {
+            halves.push(i as u16);
         }
     }
     (entries, heard, goal)

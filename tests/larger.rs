@@ -1,7 +1,8 @@
-// What document 02, E5, says of a used set and a remainder, checked of a sheet on which sums can't be tried one by one: by the reading's terms where one
-// sum is meant, by ranks where every sum is. It shares no code with the library.
+// What the documents say of a call's answer and bytes, checked of a sheet on which sums can't be tried one by one: by the reading's terms where one sum is
+// meant, by ranks where every sum is. The rungs replay, nothing follows where the goal is out of reach, and used set and remainder are those of document
+// 02, E5. It shares no code with the library.
 
-use super::reading::{add, heads, members, read, standard, standard_set, start, Set, Sheet, Term};
+use super::reading::{add, heads, is_standard, members, read, replay, single, standard, standard_set, start, Piece, Set, Sheet, Term};
 use super::sheets::FRONT;
 use std::collections::BTreeSet;
 use std::rc::Rc;
@@ -18,22 +19,29 @@ fn lowest(b: &Bits) -> Option<u32> {
     (0..2).find(|&w| b[w] != 0).map(|w| 128 * w as u32 + b[w].trailing_zeros())
 }
 
-// How many of these sets are left when each that is a sum of those before it is left out. Rows are taken off by their lowest members.
-fn rank(sets: &[Bits]) -> usize {
+// What is left of the set when rows are taken off by their lowest members.
+fn rest(rows: &[Option<Bits>], set: &Bits) -> Bits {
+    let mut rest = *set;
+    while let Some(row) = lowest(&rest).and_then(|low| rows[low as usize]) {
+        rest = [rest[0] ^ row[0], rest[1] ^ row[1]];
+    }
+    rest
+}
+
+// The sets with each that is a sum of those before it left out, as rows by their lowest members.
+fn rows(sets: &[Bits]) -> Vec<Option<Bits>> {
     let mut rows: Vec<Option<Bits>> = vec![None; 256];
     for set in sets {
-        let mut rest = *set;
-        while let Some(low) = lowest(&rest) {
-            match rows[low as usize] {
-                Some(row) => rest = [rest[0] ^ row[0], rest[1] ^ row[1]],
-                None => {
-                    rows[low as usize] = Some(rest);
-                    break;
-                }
-            }
+        let rest = rest(&rows, set);
+        if let Some(low) = lowest(&rest) {
+            rows[low as usize] = Some(rest);
         }
     }
-    rows.iter().flatten().count()
+    rows
+}
+
+fn rank(sets: &[Bits]) -> usize {
+    rows(sets).iter().flatten().count()
 }
 
 // A sheet on which sums can't be tried one by one, with each entry's set of standard entries.
@@ -75,8 +83,42 @@ impl Larger {
     fn missing_part(&self, gained: &[usize], used: &Set, remainder: &Set) -> bool {
         let sum = used.iter().chain(remainder).fold(Rc::new(BTreeSet::new()), |sum: Term, &e| add(&sum, &self.sheet.terms[e]));
         sum == self.sheet.terms[self.sheet.goal]
-            && remainder.iter().all(|&e| self.heads[e] == e && matches!(self.sheet.kinds[e], 1..=3) && !self.highest(gained, e))
+            && remainder.iter().all(|&e| is_standard(&self.sheet, &self.heads, e) && !self.highest(gained, e))
             && used.iter().all(|&e| self.drawn(gained, e))
+    }
+
+    // Does a rung follow by a rule other than sum from these terms?
+    fn follows(&self, gained: &BTreeSet<Term>) -> bool {
+        let has = |t: &Term| gained.contains(t);
+        self.sheet.terms.iter().filter_map(|t| Some((has(t), single(t)?))).any(|(known, piece)| match (known, piece) {
+            (true, Piece::Pair(l, r)) => !has(l) || !has(r),
+            (true, Piece::Seal(m, k)) => has(k) && !has(m),
+            (true, Piece::Lock(m, k)) => has(&k.opposite().term()) && !has(m),
+            (false, Piece::Pair(a, b) | Piece::Seal(a, b)) => has(a) && has(b),
+            (false, Piece::Lock(m, k)) => has(m) && has(&k.term()),
+            _ => false,
+        })
+    }
+
+    // The same by sum.
+    fn sum_follows(&self, gained: &[usize]) -> bool {
+        let rows = rows(&gained.iter().map(|&g| bits(&self.sets[g])).collect::<Vec<Bits>>());
+        (0..self.sets.len()).any(|e| !gained.contains(&self.heads[e]) && rest(&rows, &bits(&self.sets[e])) == [0; 2])
+    }
+
+    // Is the verdict that of its rungs? They replay; the goal is gained at their end exactly where it is reached; otherwise another rung follows exactly
+    // where the call stopped.
+    pub fn judged(&self, cut: usize, answer: u32, buffer: &[u8]) -> bool {
+        let (rungs, made) = (&buffer[FRONT..], answer as usize % 1000);
+        let gained = self.gained(cut, rungs, made);
+        let Some(Ok(state)) = rungs.get(..40 * made).map(|rungs| replay(&self.sheet, cut, rungs)) else { return false };
+        let reached = state.contains(&self.sheet.terms[self.sheet.goal]);
+        let more = || self.follows(&state.into_iter().collect()) || self.sum_follows(&gained);
+        match answer / 1000 {
+            1 => reached,
+            2 => !reached && !more(),
+            _ => !reached && more(),
+        }
     }
 
     // Are a call's three sets those of its rungs and its verdict?

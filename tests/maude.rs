@@ -11,6 +11,7 @@ mod sheets;
 mod kinds;
 use kinds::Parts;
 use sheets::{random_entries, sheet, Entry, Random, FRONT};
+use std::collections::BTreeSet;
 use std::fs::{create_dir_all, write};
 use std::io::Read;
 use std::process::{Child, Command, Stdio};
@@ -28,16 +29,17 @@ const FORMS: [&str; 3] = ["search", "rewrite", "eliminate"];
 // public atoms and the heard messages are known. Each rule moves a term from W to K. A sum is flat and has no zero in it, because zero is the
 // identity; Maude applies B + B = zero to any two of its parts.
 const RULES: &str = "
-  sorts Base Term Set State .
+  sorts Base Term Set State KeyPair .
   subsorts Base < Term < Set .
   op zero : -> Term [ctor] .
-  ops pair seal : Term Term -> Base [ctor] .
+  ops pair seal lock : Term Term -> Base [ctor] .
+  ops priv publ : KeyPair -> Base [ctor] .
   op _+_ : Term Term -> Term [ctor assoc comm id: zero prec 30] .
   op none : -> Set [ctor] .
   op _;_ : Set Set -> Set [ctor assoc comm id: none prec 40] .
   op st : Set Set Term -> State .
   op reached : -> State [ctor] .
-  vars X Y G : Term . vars K W : Set . var B : Base .
+  vars X Y G : Term . vars K W : Set . var B : Base . var P : KeyPair .
   eq B + B = zero .
   eq X ; X = X .
   eq st(K ; G, W, G) = reached .
@@ -49,6 +51,10 @@ const RULES: &str = "
   rl [join-same] : st(K ; X, W ; pair(X, X), G) => st(K ; X ; pair(X, X), W, G) .
   rl [seal] : st(K ; X ; Y, W ; seal(X, Y), G) => st(K ; X ; Y ; seal(X, Y), W, G) .
   rl [seal-same] : st(K ; X, W ; seal(X, X), G) => st(K ; X ; seal(X, X), W, G) .
+  rl [unlock-priv] : st(K ; lock(X, publ(P)) ; priv(P), W ; X, G) => st(K ; lock(X, publ(P)) ; priv(P) ; X, W, G) .
+  rl [unlock-publ] : st(K ; lock(X, priv(P)) ; publ(P), W ; X, G) => st(K ; lock(X, priv(P)) ; publ(P) ; X, W, G) .
+  rl [lock] : st(K ; X ; Y, W ; lock(X, Y), G) => st(K ; X ; Y ; lock(X, Y), W, G) .
+  rl [lock-same] : st(K ; X, W ; lock(X, X), G) => st(K ; X ; lock(X, X), W, G) .
 ";
 
 // A term is a sum of known terms when adding known terms to it, one at a time, can lead to zero. The terms met on the way may be off the sheet;
@@ -80,12 +86,17 @@ fn list(entries: &[u16], between: &str, empty: &str) -> String {
     if names.is_empty() { empty.to_string() } else { names.join(between) }
 }
 
-// One constant an atom and one an entry. An entry's term is made once and shared (memo).
+// One constant an atom, one a key pair and one an entry. An entry's term is made once and shared (memo).
 fn declarations(entries: &[Entry]) -> String {
-    let mut atoms: Vec<u32> = entries.iter().filter_map(|e| if let Entry::Atom(a) | Entry::Long(a) = e { Some(*a) } else { None }).collect();
-    atoms.sort();
-    atoms.dedup();
-    let mut text: String = atoms.iter().map(|a| format!("  op a{a} : -> Base [ctor] .\n")).collect();
+    let constants: BTreeSet<String> = entries
+        .iter()
+        .filter_map(|e| match e {
+            Entry::Atom(a) | Entry::Long(a) => Some(format!("  op a{a} : -> Base [ctor] .\n")),
+            Entry::Private(p) | Entry::Public(p) => Some(format!("  op k{p} : -> KeyPair [ctor] .\n")),
+            _ => None,
+        })
+        .collect();
+    let mut text: String = constants.into_iter().collect();
     for (i, e) in entries.iter().enumerate() {
         let term = match e {
             Entry::Zero => "zero".to_string(),
@@ -93,6 +104,9 @@ fn declarations(entries: &[Entry]) -> String {
             Entry::Pair(l, r) => format!("pair(e{l}, e{r})"),
             Entry::Seal(m, k) => format!("seal(e{m}, e{k})"),
             Entry::Sum(items) => list(items, " + ", "zero"),
+            Entry::Private(p) => format!("priv(k{p})"),
+            Entry::Public(p) => format!("publ(k{p})"),
+            Entry::Lock(m, k) => format!("lock(e{m}, e{k})"),
             Entry::Raw(_) => panic!("a raw entry has no term"),
         };
         text += &format!("  op e{i} : -> Term [memo] .\n  eq e{i} = {term} .\n");
@@ -248,7 +262,7 @@ fn main() {
     println!("maude starts and ends in {:.1} ms; timeout {} s", start_up(), LIMIT.as_secs());
     println!("{:39}{:>19}{:>18}{:>18}", "", "search ms", "rewrite ms", "eliminate ms");
     println!("{:10} {:>4} {:>12} {:>11}{}", "sheet", "n", "verdict", "library us", "      whole     own".repeat(3));
-    let kinds: [(&str, fn(usize) -> Parts); 10] = [
+    let kinds: [(&str, fn(usize) -> Parts); 12] = [
         ("joins", kinds::joins),
         ("chain", kinds::chain),
         ("sums", kinds::sums),
@@ -257,6 +271,8 @@ fn main() {
         ("stuck", kinds::stuck),
         ("serials", kinds::serials),
         ("random", kinds::random),
+        ("locks", kinds::locks),
+        ("locked", |n| kinds::locked(n, 1)),
         ("random b", |n| kinds::drawn(n, 2)),
         ("random c", |n| kinds::drawn(n, 3)),
     ];

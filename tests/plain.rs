@@ -1,6 +1,7 @@
-// The verdict in plain Rust, by the library's algorithm: tables of keys, sets and representatives, a basis with kept remainders, and a least
+// The verdict in plain Rust, by the library's algorithm: tables of keys, sets, representatives and openers, a basis with kept remainders, and a least
 // number over all steps that follow. For the benchmark; the tests compare it with the library too. A term is heard in one of two forms:
-// the state is lent, or it is taken by value and handed back, as the library does.
+// the state is lent, or it is taken by value and handed back, as the library does. `Choices` are the places in which a library that is wrong on
+// purpose differs; the right one makes none of its own.
 
 #![allow(dead_code)] // the tests use one form, the benchmark both
 
@@ -35,22 +36,64 @@ pub fn leading(s: &Set) -> u8 {
 
 pub struct Tables {
     n: usize,
-    keys: [u64; 256],
+    pub keys: [u64; 256], // the kind above 32 bits, and below them a number or two representatives; 0 for zero and sums
     pub sets: [Set; 256],
-    reps: [u8; 256],
+    pub reps: [u8; 256],
+    pub openers: [u16; 256], // for a lock the representative of the half that opens it, or 256
 }
 
-fn tables(s: &[u8]) -> Tables {
+// What a library chooses, rule by rule. These are the right choices.
+pub trait Choices {
+    // The kind by which terms are told apart.
+    fn kind(&self, kind: u64) -> u64 {
+        kind
+    }
+    // What stands in a key for a part of a pair, a seal or a lock.
+    fn part(&self, t: &Tables, _kind: u64, entry: usize) -> u64 {
+        t.reps[entry] as u64
+    }
+    // The entry that opens this lock, given the entry of the opposite half or 256.
+    fn opener(&self, _t: &Tables, _lock: usize, opposite: u16) -> u16 {
+        opposite
+    }
+    // Is this entry known at the start without being heard?
+    fn public(&self, t: &Tables, i: usize) -> bool {
+        t.keys[i] >> 8 == 1 << 24
+    }
+    // Can a pair, a seal or a lock be made of its two parts?
+    fn made(&self, _t: &Tables, s: &State, _i: usize, [first, second]: [u8; 2]) -> bool {
+        has(&s.known, first) && has(&s.known, second)
+    }
+    // The place of a rule and a first source in the order of the steps to one entry. Done twice, it changes nothing.
+    fn order(&self, rule: u32, first: u8) -> (u32, u8) {
+        (rule, first)
+    }
+    // The used set and the remainder of the goal at this answer.
+    fn missing(&self, t: &Tables, s: &State, goal: usize, answer: u32) -> [Set; 2] {
+        if answer / 1000 != 2 {
+            return [[0; 4]; 2];
+        }
+        let (remainder, used) = s.reduce(&t.sets[goal]);
+        [used, remainder]
+    }
+}
+
+pub struct Right;
+
+impl Choices for Right {}
+
+fn tables(s: &[u8], c: &impl Choices) -> Tables {
     let number = |i: usize| (s[i] as usize) * 256 + s[i + 1] as usize;
     let n = number(4);
-    let mut t = Tables { n, keys: [0; 256], sets: [[0; 4]; 256], reps: [0; 256] };
+    let mut t = Tables { n, keys: [0; 256], sets: [[0; 4]; 256], reps: [0; 256], openers: [256; 256] };
     for i in 0..n {
         let (at, len) = (number(10 + 4 * i), number(12 + 4 * i));
         let kind = s[at] as u64;
+        let tag = c.kind(kind) << 32;
         let key = match kind {
-            1 if len == 5 => (1 << 32) + (number(at + 1) as u64) * 65536 + number(at + 3) as u64,
-            1 => (1 << 32) + number(at + 1) as u64,
-            2 | 3 => (kind << 32) + (t.reps[number(at + 1)] as u64) * 256 + t.reps[number(at + 3)] as u64,
+            1 if len == 5 => tag + (number(at + 1) as u64) * 65536 + number(at + 3) as u64,
+            1 | 5 | 6 => tag + number(at + 1) as u64,
+            2 | 3 | 7 => tag + c.part(&t, kind, number(at + 1)) * 256 + c.part(&t, kind, number(at + 3)),
             _ => 0,
         };
         let (set, rep) = if key == 0 {
@@ -69,7 +112,20 @@ fn tables(s: &[u8]) -> Tables {
         t.sets[i] = set;
         t.reps[i] = rep as u8;
     }
+    find_openers(&mut t, c);
     t
+}
+
+// The opposite half of a lock's key has the kind 6 where the key has 5, and 5 where it has 6, and the same number. It may stand above the lock.
+fn find_openers(t: &mut Tables, c: &impl Choices) {
+    for i in 0..t.n {
+        if t.keys[i] >> 32 == 7 {
+            let half = t.keys[(t.keys[i] % 256) as usize];
+            let opposite = ((11 - (half >> 32)) << 32) + half % (1 << 32);
+            let found = (0..t.n).find(|&j| t.keys[j] == opposite).unwrap_or(256) as u16;
+            t.openers[i] = c.opener(t, i, found);
+        }
+    }
 }
 
 // What is known, with its basis.
@@ -131,11 +187,11 @@ impl State {
     }
 }
 
-fn number(head: u8, rule: u32, first: u8) -> u32 {
-    (head as u32) * 65536 + rule * 256 + first as u32
-}
-
-fn next(t: &Tables, s: &State, remainders: &[Set; 256]) -> u32 {
+fn next(t: &Tables, s: &State, remainders: &[Set; 256], c: &impl Choices) -> u32 {
+    let number = |head: u8, rule: u32, first: u8| {
+        let (rule, first) = c.order(rule, first);
+        (head as u32) * 65536 + rule * 256 + first as u32
+    };
     let mut best = NO_STEP;
     for i in 0..t.n {
         if t.reps[i] as usize != i {
@@ -148,16 +204,13 @@ fn next(t: &Tables, s: &State, remainders: &[Set; 256]) -> u32 {
             match kind {
                 2 => offer(l, 1).min(offer(r, 2)),
                 3 if has(&s.known, r) => offer(l, 3),
+                7 if t.openers[i] < 256 && has(&s.known, t.openers[i] as u8) => offer(l, 7),
                 _ => NO_STEP,
             }
-        } else if kind == 2 && has(&s.known, l) && has(&s.known, r) {
-            number(e, 4, l)
-        } else if kind == 3 && has(&s.known, l) && has(&s.known, r) {
-            number(e, 5, l)
-        } else if remainders[i] == [0; 4] {
-            number(e, 6, 0)
         } else {
-            NO_STEP
+            let rule = [0, 0, 4, 5, 0, 0, 0, 8][kind as usize];
+            let made = if rule != 0 && c.made(t, s, i, [l, r]) { number(e, rule, l) } else { NO_STEP };
+            if remainders[i] == [0; 4] { made.min(number(e, 6, 0)) } else { made }
         };
         best = best.min(x);
     }
@@ -170,12 +223,14 @@ fn put_set(out: &mut [u8], set: &Set) {
     }
 }
 
-fn put_rung(out: &mut [u8], t: &Tables, s: &State, x: u32) {
-    let (head, rule, first) = ((x >> 16) as u8, x >> 8 & 255, x as u8);
+fn put_rung(out: &mut [u8], t: &Tables, s: &State, x: u32, c: &impl Choices) {
+    let head = (x >> 16) as u8;
+    let (rule, first) = c.order(x >> 8 & 255, x as u8);
     let (first, second, set) = match rule {
         1 | 2 => (first as u16, 65535, [0; 4]),
         3 => (first as u16, (t.keys[first as usize] % 256) as u16, [0; 4]),
-        4 | 5 => (first as u16, (t.keys[head as usize] % 256) as u16, [0; 4]),
+        4 | 5 | 8 => (first as u16, (t.keys[head as usize] % 256) as u16, [0; 4]),
+        7 => (first as u16, t.openers[first as usize], [0; 4]),
         _ => (65535, 65535, s.reduce(&t.sets[head as usize]).1),
     };
     for (i, n) in [head as u16, rule as u16, first, second].iter().enumerate() {
@@ -185,20 +240,20 @@ fn put_rung(out: &mut [u8], t: &Tables, s: &State, x: u32) {
 }
 
 // The run from a state: the verdict's thousand and the number of rungs.
-fn run(t: &Tables, s: &mut State, remainders: &mut [Set; 256], goal: u8, budget: u32, out: &mut [u8]) -> u32 {
+fn run(t: &Tables, s: &mut State, remainders: &mut [Set; 256], goal: u8, budget: u32, out: &mut [u8], c: &impl Choices) -> u32 {
     let mut made = 0;
     loop {
         if has(&s.known, goal) {
             return 1000 + made;
         }
-        let x = next(t, s, remainders);
+        let x = next(t, s, remainders, c);
         if x == NO_STEP {
             return 2000 + made;
         }
         if made == budget {
             return 3000 + made;
         }
-        put_rung(&mut out[FRONT + 40 * made as usize..], t, s, x);
+        put_rung(&mut out[FRONT + 40 * made as usize..], t, s, x, c);
         let (before, head) = (s.len, (x >> 16) as u8);
         s.learn(head, &t.sets[head as usize]);
         s.sweep_added(before, &mut remainders[..t.n]);
@@ -206,17 +261,7 @@ fn run(t: &Tables, s: &mut State, remainders: &mut [Set; 256], goal: u8, budget:
     }
 }
 
-// The used set and the remainder of the goal at this answer.
-fn missing(t: &Tables, s: &State, goal: usize, answer: u32) -> [Set; 2] {
-    if answer / 1000 != 2 {
-        return [[0; 4]; 2];
-    }
-    let (remainder, used) = s.reduce(&t.sets[goal]);
-    [used, remainder]
-}
-
-// `missing` gives the two sets, so that it can be exchanged for a faulty one.
-fn judge<const BY_VALUE: bool>(sheet: &[u8], cut: u32, budget: u32, out: &mut [u8], missing: impl Fn(&Tables, &State, usize, u32) -> [Set; 2]) -> u32 {
+fn judge<const BY_VALUE: bool>(sheet: &[u8], cut: u32, budget: u32, out: &mut [u8], c: &impl Choices) -> u32 {
     let refused = super::sheets::refusal(sheet);
     if refused != 0 {
         return refused;
@@ -231,9 +276,9 @@ fn judge<const BY_VALUE: bool>(sheet: &[u8], cut: u32, budget: u32, out: &mut [u
     if out.len() < FRONT + 40 * budget as usize {
         return 10;
     }
-    let t = tables(sheet);
+    let t = tables(sheet, c);
     let (mut s, mut remainders) = (State::new(), t.sets);
-    let public = (0..t.n).filter(|&i| t.reps[i] as usize == i && t.keys[i] >> 8 == 1 << 24);
+    let public = (0..t.n).filter(|&i| t.reps[i] as usize == i && c.public(&t, i));
     let heard = (0..cut as usize).map(|k| at(10 + 4 * t.n + 2 * k));
     for i in public.chain(heard) {
         let (before, e) = (s.len, t.reps[i]);
@@ -247,8 +292,8 @@ fn judge<const BY_VALUE: bool>(sheet: &[u8], cut: u32, budget: u32, out: &mut [u
         }
         s.sweep_added(before, &mut remainders[..t.n]);
     }
-    let answer = run(&t, &mut s, &mut remainders, t.reps[at(8)], budget, out);
-    let [used, remainder] = missing(&t, &s, at(8), answer);
+    let answer = run(&t, &mut s, &mut remainders, t.reps[at(8)], budget, out, c);
+    let [used, remainder] = c.missing(&t, &s, at(8), answer);
     for (set, place) in [s.known, used, remainder].iter().zip(out[..FRONT].chunks_exact_mut(32)) {
         put_set(place, set);
     }
@@ -257,15 +302,15 @@ fn judge<const BY_VALUE: bool>(sheet: &[u8], cut: u32, budget: u32, out: &mut [u
 
 // The state is lent to each term heard.
 pub fn verdict(sheet: &[u8], cut: u32, budget: u32, out: &mut [u8]) -> u32 {
-    judge::<false>(sheet, cut, budget, out, missing)
+    judge::<false>(sheet, cut, budget, out, &Right)
 }
 
-// The same with other sets for the used set and the remainder.
-pub fn verdict_missing(sheet: &[u8], cut: u32, budget: u32, out: &mut [u8], missing: impl Fn(&Tables, &State, usize, u32) -> [Set; 2]) -> u32 {
-    judge::<false>(sheet, cut, budget, out, missing)
+// The same by other choices.
+pub fn verdict_by(sheet: &[u8], cut: u32, budget: u32, out: &mut [u8], choices: &impl Choices) -> u32 {
+    judge::<false>(sheet, cut, budget, out, choices)
 }
 
 // The state is taken by each term heard, and handed back.
 pub fn verdict_by_value(sheet: &[u8], cut: u32, budget: u32, out: &mut [u8]) -> u32 {
-    judge::<true>(sheet, cut, budget, out, missing)
+    judge::<true>(sheet, cut, budget, out, &Right)
 }

@@ -1,6 +1,6 @@
-// The program, run on sheets and compared with their cards: those of the flight card and each kind of line, long atom records, the longest sheet, refused
-// input, and random small sheets whose card is made from the reading of documents 01 and 02. A stated card is compared with the reading's too. Standard
-// error has the hint for text, or nothing. The program's path is the first argument.
+// The program, run on sheets and compared with their cards: those of the flight card and each kind of line, long atom records, key pairs and locks, the
+// longest sheet, refused input, and random small sheets whose card is made from the reading of documents 01 and 02. A stated card is compared with the
+// reading's too. Standard error has the hint for text, or nothing. The program's path is the first argument.
 
 #[allow(dead_code)] // each test uses a part
 mod sheets;
@@ -39,7 +39,7 @@ fn card(s: &[u8]) -> String {
         return format!("refused {refused}\n");
     }
     let sheet = read(s);
-    let words = ["", "left", "right", "open", "join", "seal", "sum"];
+    let words = ["", "left", "right", "open", "join", "seal", "sum", "unlock", "lock"];
     let mut text = format!("goal {} heard {}\n", sheet.goal, sheet.heard.len());
     for cut in 0..=sheet.heard.len() {
         let (answer, rungs, w) = work(&sheet, cut, 256);
@@ -52,7 +52,7 @@ fn card(s: &[u8]) -> String {
                     text += &format!("rung {} {}", r.head, words[r.rule]);
                     let sources: Vec<usize> = match r.rule {
                         1 | 2 => vec![r.first],
-                        3..=5 => vec![r.first, r.second],
+                        3..=5 | 7 | 8 => vec![r.first, r.second],
                         _ => r.set.into_iter().collect(),
                     };
                     for source in sources {
@@ -145,6 +145,35 @@ fn long_records(c: &mut Checks) {
     }
 }
 
+// Key pairs and locks (document 02, E6): the rules that print `unlock` and `lock`.
+fn locks(c: &mut Checks) {
+    use Entry::*;
+    let e = [Atom(1000), Public(7), Private(7), Lock(0, 1)];
+    let out = |cuts: &[u32]| cuts.iter().enumerate().map(|(cut, known)| format!("cut {cut} out of reach known {known}\n")).collect::<String>();
+    c.check("a lock opened", &sheet(&e, &[3, 2], 0), &format!("goal 0 heard 2\n{}cut 2 reached rungs 1\nrung 0 unlock 3 2\n", out(&[0, 1])));
+    c.check("a message locked", &sheet(&e, &[1, 0], 3), &format!("goal 3 heard 2\n{}cut 2 reached rungs 1\nrung 3 lock 0 1\n", out(&[0, 1])));
+    c.check("the same half opens nothing", &sheet(&e, &[3, 1], 0), &format!("goal 0 heard 2\n{}", out(&[0, 1, 2])));
+    c.check(
+        "sum before unlock",
+        // the last message is the pair of the mask of entry 3 and of the half that opens its lock
+        &sheet(&[Atom(1001), Private(7), Public(7), Atom(1000), Lock(3, 2), Sum(vec![3, 0]), Pair(0, 1)], &[4, 5, 6], 3),
+        &format!("goal 3 heard 3\n{}cut 3 reached rungs 3\nrung 0 left 6\nrung 1 right 6\nrung 3 sum 0 5\n", out(&[0, 1, 2])),
+    );
+    c.check("a half is no name", &sheet(&[Public(7), Private(0)], &[], 0), &format!("goal 0 heard 0\n{}", out(&[0])));
+    c.check(
+        "opened and locked again",
+        // a lock under a private half, above which the public one stands; its message is locked under that
+        &sheet(&[Atom(1000), Private(65535), Lock(0, 1), Public(65535), Lock(0, 3), Public(65535)], &[2, 5], 4),
+        &format!("goal 4 heard 2\n{}cut 2 reached rungs 2\nrung 0 unlock 2 3\nrung 4 lock 0 3\n", out(&[0, 1])),
+    );
+    c.check("a lock of a half under an atom", &sheet(&[Atom(1000), Public(7), Lock(1, 0)], &[0, 1], 2), "refused 12\n");
+    c.check("a lock under a sum that is a half", &sheet(&[Public(7), Sum(vec![0]), Lock(0, 1)], &[], 0), "refused 12\n");
+    c.check("a lock under itself", &sheet(&[Public(7), Lock(0, 1)], &[], 0), "refused 6\n");
+    c.check("kind 8", &sheet(&[Public(7), Raw(vec![8, 0, 0, 0, 0])], &[], 0), "refused 5\n");
+    c.check("a half of length 5", &sheet(&[Raw(vec![5, 0, 0, 0, 7])], &[], 0), "refused 5\n");
+    c.check("a lock of length 3", &sheet(&[Public(7), Raw(vec![7, 0, 0])], &[], 0), "refused 5\n");
+}
+
 // The longest sheet, of 34,446 bytes, and one byte more or fewer. Its messages are zero and its atom in turn, or zero alone.
 fn longest(c: &mut Checks) {
     let full = |first: Entry, heard: [u16; 2]| full_sheet(first, heard, 0);
@@ -188,6 +217,7 @@ fn main() {
     let mut c = Checks { program: std::env::args().nth(1).expect("the program's path"), passed: 0, failed: 0 };
     cards(&mut c);
     long_records(&mut c);
+    locks(&mut c);
     longest(&mut c);
     refused(&mut c);
     random_sheets(&mut c);

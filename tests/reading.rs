@@ -1,5 +1,5 @@
-// Documents 01 and 02 read a second time, word by word: terms as nested sets, sums over all subsets, the whole answer and buffer of a call. It
-// shares no code with the library.
+// Documents 01 and 02 read a second time, word by word: terms as nested sets, sums over all subsets, the whole answer and buffer of a call, the replay
+// of a ladder. It shares no code with the library.
 
 use super::sheets::{refusal, FRONT};
 use std::collections::{BTreeMap, BTreeSet};
@@ -12,6 +12,26 @@ pub enum Piece {
     Atom(u32),
     Pair(Term, Term),
     Seal(Term, Term),
+    Half(Half),
+    Lock(Term, Half),
+}
+
+// Document 02, E6: "the private half" or "the public half of the key pair with the 2-byte number that follows".
+#[derive(Clone, Copy, PartialEq, Eq, PartialOrd, Ord, Debug)]
+pub struct Half {
+    pub public: bool,
+    pub pair: u32,
+}
+
+impl Half {
+    // The other half of the same key pair.
+    pub fn opposite(self) -> Half {
+        Half { public: !self.public, pair: self.pair }
+    }
+
+    pub fn term(self) -> Term {
+        one(Piece::Half(self))
+    }
 }
 
 pub type Term = Rc<BTreeSet<Piece>>;
@@ -35,8 +55,9 @@ pub fn single(t: &Term) -> Option<&Piece> {
 pub fn size(t: &Term) -> usize {
     t.iter()
         .map(|p| match p {
-            Piece::Atom(_) => 1,
+            Piece::Atom(_) | Piece::Half(_) => 1,
             Piece::Pair(a, b) | Piece::Seal(a, b) => 1 + size(a) + size(b),
+            Piece::Lock(m, _) => 2 + size(m),
         })
         .sum()
 }
@@ -52,9 +73,15 @@ pub struct Sheet {
     pub goal: usize,
 }
 
-// An atom's number (document 02, E10): all bytes that the record has after its kind, "high byte first".
-fn atom_number(record: &[u8]) -> u32 {
+// The number of an atom (document 02, E10) or of a half's key pair (E6): all bytes that the record has after its kind, "high byte first".
+fn own_number(record: &[u8]) -> u32 {
     record[1..].iter().fold(0, |number, byte| number * 256 + u32::from(*byte))
+}
+
+// E6: "Kind 5 is the private half and kind 6 the public half".
+fn half(record: &[u8]) -> Half {
+    assert!(matches!(record[0], 5 | 6), "a half of another kind");
+    Half { public: record[0] == 6, pair: own_number(record) }
 }
 
 pub fn read(s: &[u8]) -> Sheet {
@@ -67,15 +94,17 @@ pub fn read(s: &[u8]) -> Sheet {
         let t = |p: usize| terms[number(p)].clone();
         let new = match s[at] {
             0 => Rc::new(BTreeSet::new()),
-            1 => one(Piece::Atom(atom_number(record(i)))),
+            1 => one(Piece::Atom(own_number(record(i)))),
             2 => one(Piece::Pair(t(at + 1), t(at + 3))),
             3 => one(Piece::Seal(t(at + 1), t(at + 3))),
+            5 | 6 => half(record(i)).term(),
+            7 => one(Piece::Lock(t(at + 1), half(record(number(at + 3))))), // "message entry, then key entry"
             _ => (at + 1..at + len).step_by(2).fold(Rc::new(BTreeSet::new()), |sum, p| add(&sum, &t(p))),
         };
         terms.push(new);
     }
     let kinds = (0..n).map(|i| record(i)[0]).collect();
-    let label = (0..n).filter(|&i| record(i)[0] == 1 && atom_number(record(i)) <= 255).collect();
+    let label = (0..n).filter(|&i| record(i)[0] == 1 && own_number(record(i)) <= 255).collect();
     Sheet { kinds, terms, label, heard: (0..h).map(|k| number(10 + 4 * n + 2 * k)).collect(), goal }
 }
 
@@ -87,7 +116,7 @@ pub struct Rung {
     pub rule: usize,
     pub first: usize,
     pub second: usize,
-    pub set: BTreeSet<usize>,
+    pub set: Set,
 }
 
 pub struct Work {
@@ -96,12 +125,12 @@ pub struct Work {
     pub drawn: Vec<usize>,  // those that were not, when gained, a sum of those gained earlier
 }
 
-fn sum_of(sheet: &Sheet, set: &[usize]) -> Term {
-    set.iter().fold(Rc::new(BTreeSet::new()), |t, &i| add(&t, &sheet.terms[i]))
+fn sum_of<'a>(sheet: &Sheet, set: impl IntoIterator<Item = &'a usize>) -> Term {
+    set.into_iter().fold(Rc::new(BTreeSet::new()), |t, &i| add(&t, &sheet.terms[i]))
 }
 
 // The one set of `from` whose sum is t, found by trying them all.
-fn subset(sheet: &Sheet, from: &[usize], t: &Term) -> Option<BTreeSet<usize>> {
+fn subset(sheet: &Sheet, from: &[usize], t: &Term) -> Option<Set> {
     assert!(from.len() <= 12);
     let mut found = None;
     for bits in 0u32..1 << from.len() {
@@ -125,41 +154,43 @@ impl Work {
         self.gained.push(head);
     }
 
-    // How head follows by one rule: the lowest rule, then the lowest first source.
-    fn follows(&self, sheet: &Sheet, head: usize) -> Option<Rung> {
+    // Each way in which head follows by one rule other than sum: the rule and its sources.
+    fn ways(&self, sheet: &Sheet, head: usize) -> Vec<(usize, usize, usize)> {
         let t = &sheet.terms[head];
-        let mut sorted = self.gained.clone();
-        sorted.sort();
-        let rung = |rule, first, second| Some(Rung { head, rule, first, second, set: BTreeSet::new() });
-        let named = |u: &Term| sorted.iter().copied().find(|&i| sheet.terms[i] == *u);
-        for rule in 1..=3 {
-            for &i in &sorted {
-                match (rule, single(&sheet.terms[i])) {
-                    (1, Some(Piece::Pair(l, _))) if l == t => return rung(1, i, 65535),
-                    (2, Some(Piece::Pair(_, r))) if r == t => return rung(2, i, 65535),
-                    (3, Some(Piece::Seal(m, k))) if m == t => {
-                        if let Some(key) = named(k) {
-                            return rung(3, i, key);
-                        }
-                    }
-                    _ => {}
+        let gained = |u: &Term| self.gained.iter().copied().find(|&i| sheet.terms[i] == *u);
+        let mut ways = vec![];
+        let mut way = |rule, first: Option<usize>, second: Option<usize>| {
+            if let (Some(first), Some(second)) = (first, second) {
+                ways.push((rule, first, second));
+            }
+        };
+        for &i in &self.gained {
+            match single(&sheet.terms[i]) {
+                Some(Piece::Pair(l, r)) => {
+                    way(1, (l == t).then_some(i), Some(65535));
+                    way(2, (r == t).then_some(i), Some(65535));
                 }
+                Some(Piece::Seal(m, k)) if m == t => way(3, Some(i), gained(k)),
+                Some(Piece::Lock(m, k)) if m == t => way(7, Some(i), gained(&k.opposite().term())),
+                _ => {}
             }
         }
         match single(t) {
-            Some(Piece::Pair(l, r)) => {
-                if let (Some(i), Some(j)) = (named(l), named(r)) {
-                    return rung(4, i, j);
-                }
-            }
-            Some(Piece::Seal(m, k)) => {
-                if let (Some(i), Some(j)) = (named(m), named(k)) {
-                    return rung(5, i, j);
-                }
-            }
+            Some(Piece::Pair(l, r)) => way(4, gained(l), gained(r)),
+            Some(Piece::Seal(m, k)) => way(5, gained(m), gained(k)),
+            Some(Piece::Lock(m, k)) => way(8, gained(m), gained(&k.term())),
             _ => {}
         }
-        subset(sheet, &self.drawn, t).map(|set| Rung { head, rule: 6, first: 65535, second: 65535, set })
+        ways
+    }
+
+    // How head follows by one rule: "The lowest rule number is used, then the lowest first source." Sum is rule 6.
+    fn follows(&self, sheet: &Sheet, head: usize) -> Option<Rung> {
+        let least = self.ways(sheet, head).into_iter().min().map(|(rule, first, second)| Rung { head, rule, first, second, set: Set::new() });
+        match least {
+            Some(rung) if rung.rule < 6 => Some(rung),
+            _ => subset(sheet, &self.drawn, &sheet.terms[head]).map(|set| Rung { head, rule: 6, first: 65535, second: 65535, set }).or(least),
+        }
     }
 
     fn next(&self, sheet: &Sheet) -> Option<Rung> {
@@ -213,10 +244,15 @@ pub fn work(sheet: &Sheet, cut: usize, budget: usize) -> (Answer, Vec<Rung>, Wor
 
 pub type Set = BTreeSet<usize>;
 
-// The standard entries, each by its term's one piece: "A standard entry is a head of kind 1, 2 or 3" (document 01).
+// "A standard entry is a head of kind 1, 2 or 3" (document 01), and kinds 5, 6 and 7: "All three are standard" (document 02, E6).
+pub fn is_standard(sheet: &Sheet, heads: &[usize], i: usize) -> bool {
+    heads[i] == i && matches!(sheet.kinds[i], 1 | 2 | 3 | 5 | 6 | 7)
+}
+
+// The standard entries, each by its term's one piece.
 pub fn standard<'a>(sheet: &'a Sheet, heads: &[usize]) -> BTreeMap<&'a Piece, usize> {
-    let heads = (0..heads.len()).filter(|&i| heads[i] == i && matches!(sheet.kinds[i], 1..=3));
-    heads.map(|i| (single(&sheet.terms[i]).expect("an atom, a pair and a seal are one piece"), i)).collect()
+    let standard = (0..heads.len()).filter(|&i| is_standard(sheet, heads, i));
+    standard.map(|i| (single(&sheet.terms[i]).expect("a standard entry's term is one piece"), i)).collect()
 }
 
 // The set of standard entries whose sum this term is: "Every entry's term is the sum of exactly one set of standard entries, possibly none".
@@ -306,4 +342,52 @@ pub fn expected(s: &[u8], cut: u32, budget: u32, buffer: &[u8]) -> (u32, Vec<u8>
         Answer::Stopped => 3000,
     };
     (code + rungs.len() as u32, after)
+}
+
+// ---- document 01, "Ladders and their replay", with the cases of document 02, E6
+
+// Is this rung of 40 bytes right in this state?
+fn right(sheet: &Sheet, state: &[Term], rung: &[u8]) -> bool {
+    let [head, rule, first, second] = [0, 2, 4, 6].map(|at| usize::from(rung[at]) * 256 + usize::from(rung[at + 1]));
+    let set = members(&rung[8..40]);
+    // "unused fields hold their fixed values"; "a rule number without a case is wrong"
+    let (used, fixed) = match rule {
+        1 | 2 => (vec![first], second == 65535 && set.is_empty()),
+        3 | 4 | 5 | 7 | 8 => (vec![first, second], set.is_empty()),
+        6 => (set.iter().copied().collect(), first == 65535 && second == 65535),
+        _ => return false,
+    };
+    // "its gained head, used sources and summed entries are below n, each used source and summed entry is in the state"
+    let in_state = |&e: &usize| e < sheet.terms.len() && state.contains(&sheet.terms[e]);
+    fixed && head < sheet.terms.len() && used.iter().all(in_state) && case(sheet, rule, head, &used)
+}
+
+// The case of the rule, with entries that are all there.
+fn case(sheet: &Sheet, rule: usize, head: usize, used: &[usize]) -> bool {
+    let gained = &sheet.terms[head];
+    let source = |k: usize| &sheet.terms[used[k]];
+    match rule {
+        1 => matches!(single(source(0)), Some(Piece::Pair(l, _)) if l == gained),
+        2 => matches!(single(source(0)), Some(Piece::Pair(_, r)) if r == gained),
+        3 => matches!(single(source(0)), Some(Piece::Seal(m, k)) if k == source(1) && m == gained),
+        4 => matches!(single(gained), Some(Piece::Pair(l, r)) if l == source(0) && r == source(1)),
+        5 => matches!(single(gained), Some(Piece::Seal(m, k)) if m == source(0) && k == source(1)),
+        6 => *gained == sum_of(sheet, used),
+        // "the first source is a lock, the second the opposite half of its key, the gained head its message"
+        7 => matches!(single(source(0)), Some(Piece::Lock(m, k)) if k.opposite().term() == *source(1) && m == gained),
+        // "the gained head is the lock of the first under the second"
+        _ => matches!(single(gained), Some(Piece::Lock(m, k)) if m == source(0) && k.term() == *source(1)),
+    }
+}
+
+// The state at the end, or the number of the first wrong rung, which ends the replay. "The goal is gained when its term is in the state at the end."
+pub fn replay(sheet: &Sheet, cut: usize, rungs: &[u8]) -> Result<Vec<Term>, usize> {
+    let mut state: Vec<Term> = start(sheet, cut).iter().map(|&i| sheet.terms[i].clone()).collect();
+    for (number, rung) in rungs.chunks(40).enumerate() {
+        if !right(sheet, &state, rung) {
+            return Err(number);
+        }
+        state.push(sheet.terms[usize::from(rung[0]) * 256 + usize::from(rung[1])].clone());
+    }
+    Ok(state)
 }

@@ -196,11 +196,11 @@ fn any_sheet(r: &mut Random, seed: u64) -> kinds::Parts {
         let atoms = [(); 5].map(|_| few_halves(r));
         return entries_over(r, 16, &atoms);
     }
-    larger_sheet([kinds::drawn, kinds::labelled, kinds::lacking][seed as usize % 3], seed / 2)
+    larger_sheet([kinds::drawn, kinds::labelled, kinds::lacking, kinds::locked][seed as usize / 2 % 4], seed / 2)
 }
 
 // These entries in the places of the sheet's own: at each cut and budget answer and bytes are the same.
-fn same_everywhere(t: &mut Tally, what: &str, (entries, heard, goal): &kinds::Parts, others: &[Entry]) {
+pub fn same_everywhere(t: &mut Tally, what: &str, (entries, heard, goal): &kinds::Parts, others: &[Entry]) {
     let sheets = [sheet(entries, heard, *goal), sheet(others, heard, *goal)];
     for cut in [0, heard.len() / 2, heard.len()] {
         for budget in [0, 3, 256] {

@@ -1,4 +1,4 @@
-// The refusals, on the built library: each row of the grounding table with its neighbours on both sides, several faults at once to show the
+// The refusals, on the built library: each row of the grounding table and row 12 with its neighbours on both sides, several faults at once to show the
 // order, and many damaged sheets against a second reading of the table. A refused verdict keeps every byte of the buffer and around it.
 
 #[allow(dead_code)] // each test uses a part
@@ -23,6 +23,7 @@ fn verdict(s: &[u8], cut: u32, budget: u32, buffer: &mut [u8]) -> u32 {
 struct Count {
     passed: u32,
     failed: u32,
+    numbers: [u32; 13], // sheets by the refusal wanted
     // ends the test at the first failure, for libraries that are wrong on purpose
     first_only: bool,
 }
@@ -30,6 +31,7 @@ struct Count {
 impl Count {
     // A sheet's refusal, or 0: of the sheet alone, of a verdict, and of a verdict with faults in all that is checked later.
     fn check(&mut self, what: &str, s: &[u8], want: u32) {
+        self.numbers[want as usize] += 1;
         let got = validate(s);
         if got == want && refusal(s) == want {
             self.passed += 1;
@@ -133,7 +135,9 @@ fn longest_refused(c: &mut Count) {
     faults.push(("zero of length 5", with_kind(0), 5));
     faults.push(("a pair for the atom", with_kind(2), 6));
     faults.push(("a sum for the atom", with_kind(4), 6));
-    faults.push(("kind 5 for the atom", with_kind(5), 5));
+    faults.push(("a half of length 5 for the atom", with_kind(5), 5));
+    faults.push(("a lock for the atom", with_kind(7), 6));
+    faults.push(("kind 8 for the atom", with_kind(8), 5));
     for (what, s, want) in faults {
         assert_eq!(s.len(), LONGEST);
         c.check(&format!("34,446 bytes, {what}"), &s, want);
@@ -171,10 +175,12 @@ fn rows_2_to_4(c: &mut Count) {
 
 fn row_5(c: &mut Count) {
     use Entry::*;
-    for kind in 5..=255u8 {
-        c.check("kind over 4", &sheet(&[Raw(vec![kind])], &[], 0), 5);
-        c.check("kind over 4 with a length of 3", &sheet(&[Raw(vec![kind, 0, 0])], &[], 0), 5);
-        c.check("kind over 4 with a length of 5", &sheet(&[Raw(vec![kind, 0, 0, 0, 0])], &[], 0), 5);
+    for kind in 8..=255u8 {
+        for length in 1..=7 {
+            let other = Raw([vec![kind], vec![0; length - 1]].concat());
+            c.check("kind over 7", &sheet(&[other.clone()], &[], 0), 5);
+            c.check("kind over 7, after a half", &sheet(&[Private(7), other], &[], 0), 5);
+        }
     }
     for (what, bytes) in [
         ("zero with a length of 3", vec![0, 0, 0]),
@@ -190,6 +196,122 @@ fn row_5(c: &mut Count) {
     c.check("no items", &sheet(&[Sum(vec![])], &[], 0), 0);
     c.check("64 items", &sheet(&[Zero, Sum(vec![0; 64])], &[], 0), 0);
     c.check("65 items", &sheet(&[Zero, Sum(vec![0; 65])], &[], 0), 5);
+}
+
+// Kinds 5 and 6 have the length 3 and kind 7 the length 5, whatever the bytes are. The two entries before are a half and a lock of it.
+fn half_and_lock_lengths(c: &mut Count) {
+    use Entry::*;
+    for length in (1..=131).chain([255, 256, 257, 259, 261]) {
+        for byte in [0, 1, 255] {
+            let half = |kind: u8| Raw([vec![kind], vec![byte; length - 1]].concat());
+            for kind in [5, 6] {
+                let want = if length == 3 { 0 } else { 5 };
+                let what = format!("kind {kind} with a length of {length}");
+                c.check(&what, &sheet(&[half(kind)], &[0], 0), want);
+                c.check(&what, &sheet(&[Public(7), Lock(0, 0), half(kind)], &[], 0), want);
+                c.check(&what, &sheet(&[half(kind), Atom(7), Lock(1, 0)], &[2, 0], 0), want);
+            }
+        }
+        let want = if length == 5 { 0 } else { 5 };
+        let lock = Raw([vec![7], vec![0; length - 1]].concat());
+        c.check(&format!("kind 7 with a length of {length}"), &sheet(&[Private(7), lock.clone()], &[1], 1), want);
+        c.check(&format!("kind 7 with a length of {length}, not last"), &sheet(&[Public(65535), lock, Pair(1, 1)], &[2], 0), want);
+    }
+    // each kind with the other's length, and the first kind that is none
+    c.check("a private half with a lock's length", &sheet(&[Public(7), Raw(vec![5, 0, 0, 0, 0])], &[], 0), 5);
+    c.check("a public half with a lock's length", &sheet(&[Public(7), Raw(vec![6, 0, 0, 0, 0])], &[], 0), 5);
+    c.check("a lock with a half's length", &sheet(&[Public(7), Raw(vec![7, 0, 0])], &[], 0), 5);
+    c.check("kind 7", &sheet(&[Public(7), Raw(vec![7, 0, 0, 0, 0])], &[], 0), 0);
+    c.check("kind 8", &sheet(&[Public(7), Raw(vec![8, 0, 0, 0, 0])], &[], 0), 5);
+    c.check("kind 135, which is 7 and the high bit", &sheet(&[Public(7), Raw(vec![135, 0, 0, 0, 0])], &[], 0), 5);
+}
+
+// A half's number is no entry number: it may be any.
+fn half_numbers(c: &mut Count) {
+    use Entry::*;
+    for number in (0..=300).chain([1000, 0x7fff, 0x8000, 0xff00, 65534, 65535]) {
+        for half in [Private, Public] {
+            c.check("a half's number is any", &sheet(&[half(number)], &[0], 0), 0);
+            c.check("nor in a later record", &sheet(&[Zero, half(number), Lock(0, 1), half(number), Lock(2, 3)], &[], 0), 0);
+        }
+    }
+}
+
+// Row 6 of a lock: message and key below its own number, both sides of it, and past all entries.
+fn forward_locks(c: &mut Count) {
+    use Entry::*;
+    let before = [Public(7), Private(7), Public(8)];
+    let with = |lock: Entry, after: &[Entry]| sheet(&[&before[..], &[lock], after].concat(), &[], 0);
+    for after in [&[][..], &[Public(9), Private(9)]] {
+        c.check("a message one below", &with(Lock(2, 0), after), 0);
+        c.check("a key one below", &with(Lock(0, 2), after), 0);
+        c.check("message and key one below", &with(Lock(2, 2), after), 0);
+        for number in [3, 4, 5, 255, 256, 257, 65535] {
+            c.check("a message that isn't below", &with(Lock(number, 0), after), 6);
+            c.check("a key that isn't below", &with(Lock(0, number), after), 6);
+            c.check("neither is below", &with(Lock(number, number), after), 6);
+        }
+    }
+    c.check("a lock of itself", &sheet(&[Lock(0, 0)], &[], 0), 6);
+    c.check("a half's bytes as entry numbers", &sheet(&[Private(65535), Lock(0, 0)], &[], 0), 0);
+}
+
+// Row 12: a lock's key entry "is not itself of kind 5 or 6". Entry 0 is an atom, 1 and 2 are the halves of a pair, the others are each of another kind.
+fn row_12(c: &mut Count) {
+    use Entry::*;
+    let mut keys = vec![Atom(1000), Private(7), Public(7), Zero, Long(1000), Pair(1, 2), Seal(0, 1), Lock(0, 1)];
+    keys.extend([vec![1], vec![2], vec![1, 3], vec![1, 0, 0]].map(Sum));
+    for key in 0..keys.len() as u16 {
+        let want = if key == 1 || key == 2 { 0 } else { 12 };
+        let what = format!("a lock under {:?}", keys[usize::from(key)]);
+        for message in 0..keys.len() as u16 {
+            c.check(&what, &sheet(&[&keys[..], &[Lock(message, key)]].concat(), &[12], 12), want);
+        }
+        c.check(&format!("{what}, not last"), &sheet(&[&keys[..], &[Lock(0, key), Atom(1001), Pair(12, 13)]].concat(), &[14], 14), want);
+        c.check(&format!("{what}, after a good lock"), &sheet(&[&keys[..], &[Lock(0, 1), Lock(12, key)]].concat(), &[], 0), want);
+        c.check(&format!("{what}, before a good lock"), &sheet(&[&keys[..], &[Lock(0, key), Lock(12, 2)]].concat(), &[], 0), want);
+    }
+    for number in [5u16, 6, 0x0500, 0x0600, 0x0506] {
+        c.check("an atom whose number has a half's kind", &sheet(&[Atom(number.into()), Lock(0, 0)], &[], 0), 12);
+        c.check("the same in a long record", &sheet(&[Long(u32::from(number) << 16), Lock(0, 0)], &[], 0), 12);
+    }
+    c.check("an even sum of a half, which is zero", &sheet(&[Public(7), Sum(vec![0, 0]), Lock(0, 1)], &[], 0), 12);
+    c.check("a half again, which is no head", &sheet(&[Public(7), Public(7), Lock(0, 1)], &[], 0), 0);
+    c.check("a half after a sum that is the same", &sheet(&[Public(7), Sum(vec![0]), Public(7), Lock(1, 2)], &[], 0), 0);
+}
+
+// Row 12 comes after 6 in the same record, and records are taken entry by entry.
+fn order_of_12(c: &mut Count) {
+    use Entry::*;
+    let wrong = || Lock(0, 0); // entry 0 is an atom
+    let bad = |kind: u8| Raw(vec![kind; 2]);
+    let mut check = |what: &str, entries: &[Entry], heard: &[u16], want: u32| c.check(what, &sheet(&[&[Atom(1000)], entries].concat(), heard, 0), want);
+    check("6 by the message before 12 in one record", &[Lock(1, 0)], &[], 6);
+    check("6 by the message, an entry that comes later, before 12", &[Lock(2, 0), Public(7)], &[], 6);
+    check("6 by the key before 12: a later half", &[Lock(0, 2), Public(7)], &[], 6);
+    check("6 by the key before 12: a later atom", &[Lock(0, 2), Atom(7)], &[], 6);
+    check("6 by the key before 12: itself", &[Lock(0, 1)], &[], 6);
+    check("5 before 12 in one record", &[Raw(vec![7, 0, 0, 0, 0, 0, 0])], &[], 5);
+    for kind in [0, 1, 2, 3, 4, 5, 6, 7, 8, 9] {
+        check("12 in entry 1 before 5 in entry 2", &[wrong(), bad(kind)], &[], 12);
+        check("5 in entry 1 before 12 in entry 2", &[bad(kind), wrong()], &[], 5);
+    }
+    for forward in [Pair(9, 0), Seal(0, 9), Sum(vec![9]), Lock(9, 0)] {
+        check("12 in entry 1 before 6 in entry 2", &[wrong(), forward.clone()], &[], 12);
+        check("6 in entry 1 before 12 in entry 2", &[forward, wrong()], &[], 6);
+    }
+    check("12 before 7", &[wrong()], &[9], 12);
+    check("12 in the last entry before 7", &[Public(7), Lock(0, 1), wrong()], &[0, 9], 12);
+    check("12, then 5, then 6, and 7", &[wrong(), bad(8), Pair(9, 9)], &[9], 12);
+    check("7 after a good lock", &[Public(7), Lock(0, 1)], &[3], 7);
+    check("the last entry heard after a good lock", &[Public(7), Lock(0, 1)], &[2], 0);
+    let s = sheet(&[Atom(1000), wrong()], &[], 0);
+    c.check("4 before 12", &[&s[..], &[0]].concat(), 4);
+    c.check("3 before 12", &s[..17], 3);
+    c.check("2 before 12", &with_number(s.clone(), 8, 2), 2);
+    c.call("12 before 8, 9 and 10", &s, 1, 257, 0, 12);
+    c.call("12 before 9 and 10", &s, 0, 257, 0, 12);
+    c.call("12 before 10", &s, 0, 0, FRONT - 1, 12);
 }
 
 // Kind 1 has the lengths 3 and 5, in the first record, in the last and between, whatever the number's bytes are.
@@ -298,21 +420,51 @@ fn damaged(c: &mut Count) {
     }
 }
 
+// Small sheets of halves, locks and atoms with a fault in some record: another key or message, kind or length.
+fn damaged_locks(c: &mut Count) {
+    use Entry::*;
+    let mut r = Random(0x2545f4914f6cdd1d);
+    for _ in 0..50_000 {
+        let n = 2 + r.below(5);
+        // one in eight sheets may have a forward message, one in eight a heard number that isn't listed
+        let [forward, unlisted] = [(); 2].map(|_| u64::from(r.below(8) == 0));
+        let mut entry = |i: u64| match r.below(20) {
+            0..=4 => Private(r.below(4) as u16),
+            5..=7 => Public(256 * r.below(4) as u16),
+            8..=9 => Atom(r.below(2000) as u32),
+            10 => Sum(vec![r.below(i + 1) as u16]),
+            11 => Raw([vec![r.below(9) as u8], vec![0; r.below(7) as usize]].concat()),
+            _ => Lock(r.below(i + forward) as u16, r.below(i) as u16),
+        };
+        let entries: Vec<Entry> = (0..n).map(|i| if i == 0 { Public(7) } else { entry(i) }).collect();
+        let heard: Vec<u16> = (0..r.below(3)).map(|_| r.below(n + unlisted) as u16).collect();
+        let s = sheet(&entries, &heard, r.below(n) as u16);
+        c.check("a sheet of locks", &s, refusal(&s));
+    }
+}
+
 fn main() {
     let first_only = std::env::args().nth(1).as_deref() == Some("first");
-    let mut c = Count { passed: 0, failed: 0, first_only };
+    let mut c = Count { passed: 0, failed: 0, numbers: [0; 13], first_only };
     row_1(&mut c);
     longest(&mut c);
     longest_refused(&mut c);
     rows_2_to_4(&mut c);
     row_5(&mut c);
     atom_lengths(&mut c);
+    half_and_lock_lengths(&mut c);
+    half_numbers(&mut c);
     rows_6_and_7(&mut c);
+    forward_locks(&mut c);
+    row_12(&mut c);
     order(&mut c);
+    order_of_12(&mut c);
     call_edges(&mut c);
     damaged(&mut c);
+    damaged_locks(&mut c);
+    println!("refusals by number, 0 for none: {:?}", c.numbers);
     println!("refusals: {} passed, {} failed", c.passed, c.failed);
-    if c.failed > 0 {
+    if c.failed > 0 || (0..8).chain([12]).any(|number| c.numbers[number] < 1000) {
         std::process::exit(1);
     }
 }

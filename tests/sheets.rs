@@ -11,6 +11,9 @@ pub enum Entry {
     Pair(u16, u16),
     Seal(u16, u16),
     Sum(Vec<u16>),
+    Private(u16), // the private half of the key pair with this number
+    Public(u16),
+    Lock(u16, u16), // message entry, key entry
     Raw(Vec<u8>),
 }
 
@@ -29,6 +32,9 @@ pub fn record(e: &Entry) -> Vec<u8> {
         Entry::Pair(l, r) => numbers(2, &[*l, *r]),
         Entry::Seal(m, k) => numbers(3, &[*m, *k]),
         Entry::Sum(items) => numbers(4, items),
+        Entry::Private(a) => numbers(5, &[*a]),
+        Entry::Public(a) => numbers(6, &[*a]),
+        Entry::Lock(m, k) => numbers(7, &[*m, *k]),
         Entry::Raw(bytes) => bytes.clone(),
     }
 }
@@ -73,33 +79,56 @@ impl Random {
 // a short record or a long one, and two more.
 pub const ATOMS: [u32; 9] = [0, 255, 256, 65280, 1000, 1001, 65535, 65536, 4294967295];
 
+// A few numbers of key pairs. The first three are numbers of atoms on the hull label too, and the last three share bytes.
+pub const KEY_PAIRS: [u16; 5] = [0, 1, 255, 256, 65535];
+
 // A good sheet's entries and trace: at most `most` entries over a few atoms, so that equal terms and cancelling sums are common.
 pub fn random_entries(r: &mut Random, most: u64) -> (Vec<Entry>, Vec<u16>, u16) {
     entries_over(r, most, &ATOMS)
 }
 
-// The same over these atoms.
+// The same over these atoms. One sheet in three has no key pair; the others have one or two, so that opposite halves are common.
 pub fn entries_over(r: &mut Random, most: u64, atoms: &[u32]) -> (Vec<Entry>, Vec<u16>, u16) {
+    let pairs: Vec<u16> = (0..r.below(3)).map(|_| KEY_PAIRS[r.below(5) as usize]).collect();
     let n = 1 + r.below(most);
-    let entries = (0..n)
-        .map(|i| {
-            let number = atoms[r.below(atoms.len() as u64) as usize];
-            let atom = if r.below(3) == 0 { Entry::Long(number) } else { Entry::Atom(number) };
-            if i == 0 {
-                return if r.below(4) == 0 { Entry::Zero } else { atom };
-            }
-            let (a, b) = (r.below(i) as u16, r.below(i) as u16);
-            match r.below(10) {
-                0 => Entry::Zero,
-                1..=2 => atom,
-                3..=4 => Entry::Pair(a, b),
-                5..=6 => Entry::Seal(a, b),
-                _ => Entry::Sum((0..r.below(5)).map(|_| r.below(i) as u16).collect()),
-            }
-        })
-        .collect();
+    let first = match r.below(4) {
+        0 => Entry::Zero,
+        1 if !pairs.is_empty() => random_half(r, &pairs),
+        _ => random_atom(r, atoms),
+    };
+    let mut entries = vec![first];
+    for _ in 1..n {
+        let entry = random_entry(r, atoms, &pairs, &entries);
+        entries.push(entry);
+    }
     let heard = (0..r.below(5)).map(|_| r.below(n) as u16).collect();
     (entries, heard, r.below(n) as u16)
+}
+
+fn random_atom(r: &mut Random, atoms: &[u32]) -> Entry {
+    let number = atoms[r.below(atoms.len() as u64) as usize];
+    if r.below(3) == 0 { Entry::Long(number) } else { Entry::Atom(number) }
+}
+
+fn random_half(r: &mut Random, pairs: &[u16]) -> Entry {
+    let number = pairs[r.below(pairs.len() as u64) as usize];
+    if r.below(2) == 0 { Entry::Private(number) } else { Entry::Public(number) }
+}
+
+// An entry that may stand after these. A lock's key is one of the halves before it, so there is no lock where none stands.
+fn random_entry(r: &mut Random, atoms: &[u32], pairs: &[u16], before: &[Entry]) -> Entry {
+    let i = before.len() as u64;
+    let (a, b) = (r.below(i) as u16, r.below(i) as u16);
+    let halves: Vec<u16> = (0..i as u16).filter(|e| matches!(before[usize::from(*e)], Entry::Private(_) | Entry::Public(_))).collect();
+    match r.below(if pairs.is_empty() { 10 } else { 17 }) {
+        0 => Entry::Zero,
+        1..=2 => random_atom(r, atoms),
+        3..=4 => Entry::Pair(a, b),
+        5..=6 => Entry::Seal(a, b),
+        7..=9 => Entry::Sum((0..r.below(5)).map(|_| r.below(i) as u16).collect()),
+        10..=13 if !halves.is_empty() => Entry::Lock(a, halves[r.below(halves.len() as u64) as usize]),
+        _ => random_half(r, pairs),
+    }
 }
 
 // A few bytes changed, cut off or put in.
@@ -109,10 +138,11 @@ pub fn damage(r: &mut Random, mut s: Vec<u8>) -> Vec<u8> {
             break;
         }
         let at = r.below(s.len() as u64) as usize;
-        match r.below(4) {
+        match r.below(5) {
             0 => s[at] = r.below(256) as u8,
             1 => s[at] = s[at].wrapping_add(1),
-            2 => s.truncate(at),
+            2 => s[at] = r.below(9) as u8, // a kind, or the first that is none
+            3 => s.truncate(at),
             _ => s.insert(at, r.below(3) as u8),
         }
     }
@@ -128,17 +158,18 @@ pub fn full_sheet(first: Entry, heard: [u16; 2], goal: u16) -> Vec<u8> {
     sheet(&entries, &heard, goal)
 }
 
-// The longest sheet and the lengths of an atom's record, as document 02's E10 has them.
+// The longest sheet and the lengths of an atom's record, as document 02's E10 has them, and the last kind, as its E6 has it.
 pub const LONGEST: usize = 34446;
 pub const ATOM_LENGTHS: [usize; 2] = [3, 5];
+pub const LAST_KIND: u8 = 7;
 
-// The table's rows 1 to 7, read a second time: row by row, with early answers and 64-bit numbers.
+// The table's rows 1 to 7 and 12, read a second time: row by row, with early answers and 64-bit numbers.
 pub fn refusal(s: &[u8]) -> u32 {
-    refusal_by(s, LONGEST, &ATOM_LENGTHS)
+    refusal_by(s, LONGEST, &ATOM_LENGTHS, LAST_KIND)
 }
 
-// The same with another longest sheet and other lengths of an atom's record. Document 01 has 34,444, and 3 alone.
-pub fn refusal_by(s: &[u8], longest: usize, atom_lengths: &[usize]) -> u32 {
+// The same with another longest sheet, other lengths of an atom's record and another last kind. Document 01 has 34,444, 3 alone, and 4.
+pub fn refusal_by(s: &[u8], longest: usize, atom_lengths: &[usize], last_kind: u8) -> u32 {
     let number = |i: usize| (s[i] as usize) * 256 + s[i + 1] as usize;
     if s.len() < 10 || s.len() > longest || &s[..4] != b"SHT1" {
         return 1;
@@ -164,9 +195,12 @@ pub fn refusal_by(s: &[u8], longest: usize, atom_lengths: &[usize]) -> u32 {
     }
     for i in 0..n {
         let offset = number(10 + 4 * i);
-        let refused = bad_record(&s[offset..offset + number(12 + 4 * i)], i, atom_lengths);
+        let refused = bad_record(&s[offset..offset + number(12 + 4 * i)], i, atom_lengths, last_kind);
         if refused != 0 {
             return refused;
+        }
+        if wrong_half(s, offset) {
+            return 12;
         }
     }
     if (0..h).any(|k| number(10 + 4 * n + 2 * k) >= n) {
@@ -175,21 +209,31 @@ pub fn refusal_by(s: &[u8], longest: usize, atom_lengths: &[usize]) -> u32 {
     0
 }
 
+// Row 12 for the record at this offset, in which rows 5 and 6 find nothing: a lock whose key entry is not itself of kind 5 or 6. The key entry stands
+// before the lock, so its record is good too.
+fn wrong_half(s: &[u8], offset: usize) -> bool {
+    let number = |i: usize| (s[i] as usize) * 256 + s[i + 1] as usize;
+    s[offset] == 7 && !matches!(s[number(10 + 4 * number(offset + 3))], 5 | 6)
+}
+
 // Rows 5 and 6 for the record of entry i.
-fn bad_record(record: &[u8], i: usize, atom_lengths: &[usize]) -> u32 {
+pub fn bad_record(record: &[u8], i: usize, atom_lengths: &[usize], last_kind: u8) -> u32 {
     let len = record.len();
     let good = match record[0] {
+        kind if kind > last_kind => false,
         0 => len == 1,
         1 => atom_lengths.contains(&len),
         2 | 3 => len == 5,
         4 => len % 2 == 1 && (len - 1) / 2 <= 64,
+        5 | 6 => len == 3,
+        7 => len == 5,
         _ => false,
     };
     if !good {
         return 5;
     }
     let forward = |pair: &[u8]| pair[0] as usize * 256 + pair[1] as usize >= i;
-    if record[0] >= 2 && record[1..].chunks(2).any(forward) {
+    if matches!(record[0], 2 | 3 | 4 | 7) && record[1..].chunks(2).any(forward) {
         return 6;
     }
     0

@@ -16,7 +16,8 @@
 
 enum { PAGE = 4096, MUCH = 256 * PAGE, SPARE = 32 * PAGE };
 
-/* The worst sheet has 8 atoms, half of them in long records, then pairs, seals and twice sums of 64 items in turn. So its last record is a sum. */
+/* The worst sheet has 6 atoms, half of them in long records, and both halves of a key pair, then pairs, seals or locks, and twice sums of 64 items in
+ * turn. So its last record is a sum, and the last but two a lock. */
 enum {
     ENTRIES = ZUWENDRYK_MOST_ENTRIES,
     HEARD = ZUWENDRYK_MOST_HEARD,
@@ -24,8 +25,11 @@ enum {
     LAST_HEARD = ZUWENDRYK_HEARD_AT(ENTRIES) + 2 * (HEARD - 1),
     RECORDS = ZUWENDRYK_RECORDS_AT(ENTRIES, HEARD),
     SUM = 1 + 2 * ZUWENDRYK_MOST_ITEMS,
-    LENGTH = RECORDS + 4 * 3 + 4 * 5 + (ENTRIES - 8) / 4 * (5 + 5 + SUM + SUM),
-    LAST_RECORD = LENGTH - SUM
+    LENGTH = RECORDS + 5 * 3 + 3 * 5 + (ENTRIES - 8) / 4 * (5 + 5 + SUM + SUM),
+    LAST_RECORD = LENGTH - SUM,
+    LAST_KEY = LENGTH - 2 * SUM - 2, /* the key of the last lock */
+    PUBLIC = 6,
+    PRIVATE = 7
 };
 
 static uint8_t sheet[LENGTH], buffer[ZUWENDRYK_BUFFER(RUNGS)];
@@ -59,12 +63,14 @@ static const struct call calls[] = {
     {"the worst sheet, another goal", VERDICT, ZUWENDRYK_REACHED + 1, RUNGS - 1, LENGTH, HEARD, RUNGS, sizeof buffer, 8, 1, 0, 0},
     {"validate", VALIDATE, 0, 0, LENGTH, 0, 0, 0, 0, 0, 0, 0},
     {"validate, a forward number", VALIDATE, ZUWENDRYK_FORWARD, 0, LENGTH, 0, 0, 0, LAST_RECORD + 1, ENTRIES - 1, 0, 0},
+    {"validate, a wrong half", VALIDATE, ZUWENDRYK_WRONG_HALF, 0, LENGTH, 0, 0, 0, LAST_KEY, ENTRIES - 4, 0, 0},
     {"no sheet", REFUSED, ZUWENDRYK_NO_SHEET, 0, LENGTH, HEARD, RUNGS, sizeof buffer, 2, 0, 0, 0},
     {"bad count", REFUSED, ZUWENDRYK_BAD_COUNT, 0, LENGTH, HEARD, RUNGS, sizeof buffer, 4, ENTRIES + 1, 0, 0},
     {"short list", REFUSED, ZUWENDRYK_SHORT_LIST, 0, RECORDS - 1, HEARD, RUNGS, sizeof buffer, 0, 0, 0, 0},
     {"bad pair", REFUSED, ZUWENDRYK_BAD_PAIR, 0, LENGTH - 1, HEARD, RUNGS, sizeof buffer, 0, 0, 0, 0},
-    {"bad record", REFUSED, ZUWENDRYK_BAD_RECORD, 0, LENGTH, HEARD, RUNGS, sizeof buffer, LAST_RECORD, 0x0500, 0, 0},
+    {"bad record", REFUSED, ZUWENDRYK_BAD_RECORD, 0, LENGTH, HEARD, RUNGS, sizeof buffer, LAST_RECORD, 0x0800, 0, 0},
     {"forward", REFUSED, ZUWENDRYK_FORWARD, 0, LENGTH, HEARD, RUNGS, sizeof buffer, LAST_RECORD + 1, ENTRIES - 1, 0, 0},
+    {"wrong half", REFUSED, ZUWENDRYK_WRONG_HALF, 0, LENGTH, HEARD, RUNGS, sizeof buffer, LAST_KEY, ENTRIES - 4, 0, 0},
     {"not listed", REFUSED, ZUWENDRYK_NOT_LISTED, 0, LENGTH, HEARD, RUNGS, sizeof buffer, LAST_HEARD, ENTRIES, 0, 0},
     {"past the log", REFUSED, ZUWENDRYK_PAST_THE_LOG, 0, LENGTH, HEARD + 1, RUNGS, sizeof buffer, 0, 0, 0, 0},
     {"over budget", REFUSED, ZUWENDRYK_OVER_BUDGET, 0, LENGTH, HEARD, RUNGS + 1, sizeof buffer, 0, 0, 0, 0},
@@ -92,17 +98,25 @@ static uint8_t *put_sum(uint8_t *at, size_t entry) {
     return at;
 }
 
+/* The first eight entries: atoms, and the two halves. */
+static uint8_t *put_own(uint8_t *at, size_t entry) {
+    if (entry >= PUBLIC) {
+        *at = entry == PUBLIC ? ZUWENDRYK_KIND_PUBLIC : ZUWENDRYK_KIND_PRIVATE;
+        return put(at + 1, 1000);
+    }
+    *at++ = ZUWENDRYK_KIND_ATOM;
+    if (entry % 2) at = put(at, 1); /* 65,536 more */
+    return put(at, 1000 + entry);
+}
+
 /* No part is entry 0, so that nothing holds the goal. */
 static uint8_t *put_record(uint8_t *at, size_t entry) {
-    static const uint8_t kinds[] = {ZUWENDRYK_KIND_PAIR, ZUWENDRYK_KIND_SEAL};
-    if (entry >= 8 && entry % 4 > 1) return put_sum(at, entry);
-    if (entry < 8) {
-        *at++ = ZUWENDRYK_KIND_ATOM;
-        if (entry % 2) at = put(at, 1); /* 65,536 more */
-        return put(at, 1000 + entry);
-    }
-    *at = kinds[entry % 4];
-    return put(put(at + 1, part(entry)), part(entry));
+    if (entry < 8) return put_own(at, entry);
+    if (entry % 4 > 1) return put_sum(at, entry);
+    int lock = entry % 8 == 5;
+    *at = entry % 4 == 0 ? ZUWENDRYK_KIND_PAIR : lock ? ZUWENDRYK_KIND_LOCK : ZUWENDRYK_KIND_SEAL;
+    at = put(at + 1, part(entry));
+    return put(at, lock ? PUBLIC + entry / 8 % 2 : part(entry));
 }
 
 static void put_records(void) {

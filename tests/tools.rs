@@ -124,7 +124,7 @@ fn good_texts(c: &mut Checks) {
 fn bad_texts() -> Vec<(String, &'static str, Vec<&'static str>)> {
     let entries = |n: usize| (0..n).map(|i| format!("e{i} zero\n")).collect::<String>();
     let list: Vec<(&str, &str, Vec<&str>)> = vec![
-        ("k atom 1\nm  seel k k\n", "2:4", vec!["unknown word \"seel\"", "expected zero, atom, pair, seal or sum"]),
+        ("k atom 1\nm  seel k k\n", "2:4", vec!["unknown word \"seel\"", "expected zero, atom, pair, seal, sum, private, public or lock"]),
         ("0 zero\n2 zero\n", "2:1", vec!["label 2 isn't the entry's place", "expected 1 or a name"]),
         ("0 zero\n 99999999999999999999999 zero\n", "2:2", vec!["isn't the entry's place"]),
         ("a zero\nb zero\n\ta atom 4\n", "3:2", vec!["\"a\" is used twice", "entry 0 (line 1)", "expected another name"]),
@@ -140,7 +140,7 @@ fn bad_texts() -> Vec<(String, &'static str, Vec<&'static str>)> {
         ("a zero\nb seal\n", "2:7", vec!["found the line's end", "expected the message"]),
         ("a atom  # no goal\n", "2:1", vec!["found no goal"]),
         ("a atom b\n", "1:8", vec!["found \"b\"", "expected a number from 0 to 4294967295"]),
-        ("a\n", "1:2", vec!["expected zero, atom, pair, seal or sum"]),
+        ("a\n", "1:2", vec!["expected zero, atom, pair, seal, sum, private, public or lock"]),
         ("a zero\ngoal\n", "2:5", vec!["expected the goal's entry"]),
         ("a zero b\n", "1:8", vec!["found \"b\"", "expected the line's end after zero"]),
         ("a atom 1 2\n", "1:10", vec!["found \"2\"", "expected long or the line's end after the atom's number"]),
@@ -190,7 +190,9 @@ fn refused_sheets(c: &mut Checks) {
         ([sheet_a(), vec![0; 200_000]].concat(), "refused 1 (no sheet)"),
         (zero(vec![5]), "refused 5 (bad record)"),
         (sheet(&[Zero, Sum(vec![1])], &[], 0), "refused 6 (forward)"),
+        (zero(vec![8, 0, 0]), "refused 5 (bad record)"),
         (sheet(&[Zero], &[1], 0), "refused 7 (not listed)"),
+        (sheet(&[Public(3), Sum(vec![0]), Lock(0, 1)], &[3], 0), "refused 12 (wrong half)"),
     ];
     for (bytes, said) in cases {
         c.file("bad.bytes", &bytes);
@@ -214,7 +216,7 @@ fn usage(c: &mut Checks) {
         (&["assemble", "--help"], "usage: sheet assemble "),
         (&["disassemble", "-h"], "usage: sheet disassemble "),
         (&["draw", "x", "--help"], "usage: sheet draw "),
-        (&["--version"], "sheet 4."),
+        (&["--version"], "sheet 5."),
     ];
     for (words, start) in told {
         let run = c.run(words, b"");
@@ -257,7 +259,8 @@ fn bad_cards(c: &mut Checks) {
         (card.replace("rungs 2", "rungs 3"), "8:1", "cut short"),
         (card.replace("rung 0 sum 1 2", "rung 0 sum 1 4"), "6:6", "doesn't follow by sum"),
         (card.replace("rung 0 sum 1 2", "rung 0 sum 1 3"), "6:14", "isn't gained yet"),
-        (card.replace("open", "opens"), "7:8", "unknown word \"opens\""),
+        (card.replace("open", "opens"), "7:8", "unknown word \"opens\", expected left, right, open, join, seal, sum, unlock or lock"),
+        (card.replace("open", "unlock"), "7:6", "doesn't follow by unlock"),
         (card.replace("rung 0 sum 1 2", "rung 4 sum 4"), "6:6", "can't gain entry 4"),
         (format!("{card}rung 3 open 4 0\n"), "8:1", "expected the card's end"),
         (card.trim_end().to_string(), "7:16", "cut short"),

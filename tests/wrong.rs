@@ -4,8 +4,8 @@
 #[allow(dead_code)]
 mod sheets;
 mod plain;
-use plain::{add, has, leading, single, Set, State, Tables};
-use sheets::{refusal, refusal_by, ATOM_LENGTHS, FRONT, LONGEST};
+use plain::{add, has, leading, single, Choices, Right, Set, State, Tables};
+use sheets::{bad_record, refusal, refusal_by, ATOM_LENGTHS, FRONT, LAST_KIND, LONGEST};
 use std::sync::OnceLock;
 
 fn fault() -> &'static str {
@@ -204,12 +204,18 @@ fn kind_over_16_bits(s: &[u8]) -> Vec<u8> {
     t
 }
 
-// The sheet with a long record for each atom that isn't in a short one: its last four bytes, or zeros and those that there are. Its places are good.
+// The sheet with good records where a faulty table let bad ones through. An atom that isn't in a short record gets a long one: its last four bytes, or
+// zeros and those that there are. A half has its first two bytes or zeros, a lock under another term is a seal, a forward lock and kind 8 are zero. Its
+// places are good.
 fn mended(s: &[u8]) -> Vec<u8> {
     let (n, h) = (number(s, 4), number(s, 6));
     let records: Vec<Vec<u8>> = (0..n)
         .map(|i| match record(s, i) {
             [1, bytes @ ..] if bytes.len() != 2 => [&[1][..], &joined(bytes).to_be_bytes()].concat(),
+            [kind @ 5..=6, bytes @ ..] if bytes.len() != 2 => [&[*kind][..], bytes, &[0, 0]].concat()[..3].to_vec(),
+            [8, ..] => vec![0],
+            [7, parts @ ..] if number(parts, 0).max(number(parts, 2)) >= i => vec![0],
+            [7, parts @ ..] => [&[if is_half(s, number(parts, 2)) { 7 } else { 3 }], &parts[..4]].concat(),
             other => other.to_vec(),
         })
         .collect();
@@ -223,7 +229,7 @@ fn mended(s: &[u8]) -> Vec<u8> {
     [t, records.concat()].concat()
 }
 
-// Rows 1 to 7 where a long record's halves are taken for entry numbers.
+// Rows 1 to 7 where the two halves of a long record's number are taken for entry numbers.
 fn halves_as_entries(s: &[u8]) -> u32 {
     let refused = refusal(s);
     if matches!(refused, 1..=4) {
@@ -236,20 +242,196 @@ fn halves_as_entries(s: &[u8]) -> u32 {
     refusal(&t)
 }
 
-// Rows 1 to 7 as a faulty table has them.
+// Rows 1 to 7 and 12 as a faulty table has them.
 fn table(s: &[u8]) -> u32 {
     let odd: Vec<usize> = (1..130).step_by(2).collect();
     match fault() {
-        "34,444 kept" => refusal_by(s, 34444, &ATOM_LENGTHS),
-        "34,445 the longest" => refusal_by(s, 34445, &ATOM_LENGTHS),
-        "34,447 the longest" => refusal_by(s, 34447, &ATOM_LENGTHS),
-        "length 5 refused" => refusal_by(s, LONGEST, &[3]),
-        "length 3 refused" => refusal_by(s, LONGEST, &[5]),
-        "length 4 let through" => refusal_by(s, LONGEST, &[3, 4, 5]),
-        "length 6 let through" => refusal_by(s, LONGEST, &[3, 5, 6]),
-        "every odd length let through" => refusal_by(s, LONGEST, &odd),
+        "34,444 kept" => refusal_by(s, 34444, &ATOM_LENGTHS, LAST_KIND),
+        "34,445 the longest" => refusal_by(s, 34445, &ATOM_LENGTHS, LAST_KIND),
+        "34,447 the longest" => refusal_by(s, 34447, &ATOM_LENGTHS, LAST_KIND),
+        "length 5 refused" => refusal_by(s, LONGEST, &[3], LAST_KIND),
+        "length 3 refused" => refusal_by(s, LONGEST, &[5], LAST_KIND),
+        "length 4 let through" => refusal_by(s, LONGEST, &[3, 4, 5], LAST_KIND),
+        "length 6 let through" => refusal_by(s, LONGEST, &[3, 5, 6], LAST_KIND),
+        "every odd length let through" => refusal_by(s, LONGEST, &odd, LAST_KIND),
         "a long number taken for entry numbers" => halves_as_entries(s),
-        _ => refusal(s),
+        "refusal 5 still at kind 5" => refusal_by(s, LONGEST, &ATOM_LENGTHS, 4),
+        "kind 7 refused" => refusal_by(s, LONGEST, &ATOM_LENGTHS, 6),
+        _ => table_of_locks(s),
+    }
+}
+
+// ---- E6: key pairs and locks
+
+fn is_half(s: &[u8], i: u16) -> bool {
+    i < number(s, 4) && matches!(record(s, i)[0], 5 | 6)
+}
+
+// The sum of one item that is a half, or of several that leave one: a half by its term, not by its record.
+fn is_half_by_term(s: &[u8], i: u16) -> bool {
+    let mut left: Vec<&[u8]> = vec![];
+    match record(s, i) {
+        [4, items @ ..] => items.chunks(2).map(|item| record(s, number(item, 0))).for_each(|item| match left.iter().position(|other| *other == item) {
+            Some(place) => drop(left.remove(place)),
+            None => left.push(item),
+        }),
+        other => left.push(other),
+    }
+    left.len() == 1 && matches!(left[0][0], 5 | 6)
+}
+
+// Rows 5 and 6 of a record as a faulty table has them.
+fn rows_5_and_6(s: &[u8], i: u16) -> u32 {
+    let own = record(s, i);
+    let right = |own: &[u8]| bad_record(own, i.into(), &ATOM_LENGTHS, LAST_KIND);
+    match (fault(), own[0], own.len()) {
+        ("kind 8 let through", 8, 5) | ("a half with length 5 let through", 5 | 6, 5) => 0,
+        ("a half with length 4 let through", 5 | 6, 4) | ("a half with length 1 let through", 5 | 6, 1) => 0,
+        ("a private half with length 3 refused", 5, 3) | ("a public half with length 3 refused", 6, 3) => 5,
+        ("a lock with length 7 let through", 7, 7) => right(&own[..5]),
+        ("a lock with length 5 refused", 7, 5) => 5,
+        ("the number of a half taken for an entry number", 5 | 6, 3) if number(own, 1) >= i => 6,
+        ("the message of a lock not looked at", 7, 5) if number(own, 3) < i => 0,
+        ("the key of a lock not looked at", 7, 5) if number(own, 1) < i && is_half(s, number(own, 3)) => 0,
+        ("a lock of its own number let through", 7, 5) if number(own, 1) == i && number(own, 3) < i => 0,
+        _ => right(own),
+    }
+}
+
+// Row 12 of a record, as a faulty table has it.
+fn row_12(s: &[u8], i: u16) -> u32 {
+    let own = record(s, i);
+    if own[0] != 7 || own.len() < 5 {
+        return 0;
+    }
+    let key = number(own, 3);
+    let kind = if key < number(s, 4) { record(s, key)[0] } else { 255 };
+    let good = match fault() {
+        "12 never given" => true,
+        "a key entry judged by its term" => key < i && is_half_by_term(s, key),
+        "an atom let through as a key" => matches!(kind, 1 | 5 | 6),
+        "a lock let through as a key" => matches!(kind, 5..=7),
+        "a sum let through as a key" => matches!(kind, 4..=6),
+        "a private half refused as a key" => kind == 6,
+        "a public half refused as a key" => kind == 5,
+        "the message entry judged for the key entry" => is_half(s, number(own, 1)),
+        _ => matches!(kind, 5 | 6),
+    };
+    if good { 0 } else { 12 }
+}
+
+// Rows 1 to 7 and 12, entry by entry.
+fn table_of_locks(s: &[u8]) -> u32 {
+    let rows = refusal(s);
+    if matches!(rows, 1..=4) {
+        return rows;
+    }
+    let (n, h) = (number(s, 4), number(s, 6));
+    let any = |row: &dyn Fn(u16) -> u32| (0..n).map(row).find(|refused| *refused != 0);
+    let (early, late) = (|i| rows_5_and_6(s, i), |i| row_12(s, i));
+    let listed = if (0..h).all(|k| number(s, 10 + 4 * usize::from(n) + 2 * usize::from(k)) < n) { 0 } else { 7 };
+    let refused = match fault() {
+        "12 before 6" => any(&|i| if early(i) == 5 { 5 } else { early(i).max(late(i)) }).unwrap_or(listed),
+        "12 after all records" => any(&early).or(any(&late)).unwrap_or(listed),
+        "12 after 7" => any(&early).or((listed == 7).then_some(7)).or(any(&late)).unwrap_or(0),
+        "12 before all records" => any(&late).or(any(&early)).unwrap_or(listed),
+        _ => any(&|i| if early(i) != 0 { early(i) } else { late(i) }).unwrap_or(listed),
+    };
+    if refused == 12 && fault() == "11 for 12" { 11 } else { refused }
+}
+
+// The good sheet with other bytes in its halves; `new` is told the record.
+fn with_halves(s: &[u8], new: impl Fn(&[u8]) -> [u8; 3]) -> Vec<u8> {
+    let mut t = s.to_vec();
+    for i in (0..number(s, 4)).filter(|&i| is_half(s, i)) {
+        let at = usize::from(number(s, 10 + 4 * usize::from(i)));
+        t[at..at + 3].copy_from_slice(&new(record(s, i)));
+    }
+    t
+}
+
+// The good sheet as a library takes it that reads the numbers of key pairs wrong.
+fn misread_halves(s: &[u8]) -> Vec<u8> {
+    match fault() {
+        "the number of a half cut to 8 bits" => with_halves(s, |r| [r[0], 0, r[2]]),
+        "the high byte of a half alone" => with_halves(s, |r| [r[0], r[1], 0]),
+        "the number of a half cut to 15 bits" => with_halves(s, |r| [r[0], r[1] & 127, r[2]]),
+        "every number one key pair" => with_halves(s, |r| [r[0], 0, 0]),
+        _ => s.to_vec(),
+    }
+}
+
+// The choices of a library with a fault in its sum test or in what it does with halves and locks.
+struct Wrong;
+
+impl Choices for Wrong {
+    fn kind(&self, kind: u64) -> u64 {
+        match (fault(), kind) {
+            ("private and public taken for the same", 6) => 5,
+            ("a private half taken for an atom", 5) | ("a public half taken for an atom", 6) => 1,
+            ("locks and seals taken for the same", 7) => 3,
+            ("locks and pairs taken for the same", 7) => 2,
+            _ => kind,
+        }
+    }
+
+    fn part(&self, t: &Tables, kind: u64, entry: usize) -> u64 {
+        if fault() == "locks told apart by entry numbers" && kind == 7 { entry as u64 } else { t.reps[entry].into() }
+    }
+
+    fn opener(&self, t: &Tables, lock: usize, opposite: u16) -> u16 {
+        let key = t.keys[lock] % 256;
+        let kind = t.keys[key as usize] >> 32;
+        let half = |kind: u64| (0..256).find(|&j| t.keys[usize::from(j)] >> 32 == kind).unwrap_or(256);
+        match fault() {
+            "the same half opens" => key as u16,
+            "the opposite half of another number opens" => half(11 - kind),
+            "only the private half opens" if kind == 5 => 256,
+            "only the public half opens" if kind == 6 => 256,
+            "an opposite half without an entry is free" if opposite == 256 => lock as u16,
+            "a lock opens by itself" => lock as u16,
+            "an opposite half above the lock not found" if usize::from(opposite) > lock => 256,
+            "an opposite half below the lock not found" if usize::from(opposite) < lock => 256,
+            _ => opposite,
+        }
+    }
+
+    fn public(&self, t: &Tables, i: usize) -> bool {
+        let (kind, number) = (t.keys[i] >> 32, t.keys[i] % (1 << 32));
+        Right.public(t, i)
+            || match fault() {
+                "a half gained for nothing" => matches!(kind, 5 | 6),
+                "public halves gained at the start" => kind == 6,
+                "halves below 256 on the label" => matches!(kind, 5 | 6) && number < 256,
+                _ => false,
+            }
+    }
+
+    fn made(&self, t: &Tables, s: &State, i: usize, parts: [u8; 2]) -> bool {
+        let is_lock = t.keys[i] >> 32 == 7;
+        match fault() {
+            "locked without the half" if is_lock => has(&s.known, parts[0]),
+            "locked without the message" if is_lock => has(&s.known, parts[1]),
+            "locked with the opposite half" if is_lock => has(&s.known, parts[0]) && t.openers[i] < 256 && has(&s.known, t.openers[i] as u8),
+            "never locked" if is_lock => false,
+            _ => Right.made(t, s, i, parts),
+        }
+    }
+
+    fn order(&self, rule: u32, first: u8) -> (u32, u8) {
+        let exchange = |a: u32, b: u32| (if rule == a { b } else if rule == b { a } else { rule }, first);
+        match fault() {
+            "unlock before sum" => exchange(6, 7),
+            "lock before sum" => exchange(6, 8),
+            "lock before unlock" => exchange(7, 8),
+            "unlock before open" => exchange(3, 7),
+            "rule 7 from the highest lock" if rule == 7 => (7, 255 - first),
+            _ => (rule, first),
+        }
+    }
+
+    fn missing(&self, t: &Tables, s: &State, goal: usize, answer: u32) -> [Set; 2] {
+        missing(t, s, goal, answer)
     }
 }
 
@@ -267,7 +449,7 @@ fn judged(s: &[u8], cut: u32, budget: u32, out: &mut [u8]) -> u32 {
         }
         "refusal 10 still at 32" => with_shorter_buffer(s, cut, budget, out),
         "the kind 16 bits above the number" => plain::verdict(&kind_over_16_bits(s), cut, budget, out),
-        _ => plain::verdict_missing(&misread(s), cut, budget, out, missing),
+        _ => plain::verdict_by(&misread_halves(&misread(s)), cut, budget, out, &Wrong),
     }
 }
 
@@ -290,9 +472,36 @@ fn exchange_words(set: &mut [u8]) {
     }
 }
 
+// The rungs by rules 7 and 8 as a faulty writer would leave them.
+fn write_locks(s: &[u8], rungs: &mut [u8]) {
+    for rung in rungs.chunks_mut(40).filter(|rung| matches!(rung[3], 7 | 8)) {
+        let (rule, first, second) = (rung[3], number(rung, 4), number(rung, 6));
+        let last = |i: u16| (0..number(s, 4)).rev().find(|&j| record(s, j) == record(s, i)).unwrap_or(i);
+        let put = |place: &mut [u8], n: u16| place.copy_from_slice(&n.to_be_bytes());
+        match (fault(), rule) {
+            ("message and key exchanged in the sources of lock", 8) | ("lock and half exchanged in the sources of unlock", 7) => {
+                put(&mut rung[4..6], second);
+                put(&mut rung[6..8], first);
+            }
+            ("the key for the second source of unlock", 7) => put(&mut rung[6..8], number(record(s, first), 3)),
+            ("the second source of unlock not the head", 7) | ("the second source of lock not the head", 8) => put(&mut rung[6..8], last(second)),
+            ("the first source of unlock not the head", 7) => put(&mut rung[4..6], last(first)),
+            ("unlock without a second source", 7) => put(&mut rung[6..8], 65535),
+            ("the set of unlock not zero", 7) | ("the set of lock not zero", 8) => rung[8 + usize::from(second / 8)] |= 1 << (second % 8),
+            ("the numbers of unlock and lock exchanged", _) => rung[3] = 15 - rule,
+            ("unlock written as open", 7) => rung[3] = 3,
+            ("lock written as seal", 8) => rung[3] = 5,
+            _ => {}
+        }
+    }
+}
+
 // The bytes as a library with a faulty writer would leave them, after a call that isn't refused.
 fn write(s: &[u8], before: &[u8], out: &mut [u8], answer: u32) {
     let rungs = (answer % 1000) as usize;
+    if let Some(rungs) = out.get_mut(FRONT..FRONT + 40 * rungs) {
+        write_locks(s, rungs);
+    }
     match fault() {
         "the first rung copied" if rungs > 1 => out.copy_within(FRONT..FRONT + 40, FRONT + 40),
         "a later byte changed" if out.len() > FRONT + 40 * rungs => out[FRONT + 40 * rungs] ^= 1,
