@@ -1,7 +1,8 @@
 -- What a reader may conclude of halves and locks (document 02, E6).
 -- Shown: `private-length`, `public-length`, `lock-length`, `no-length`, the lengths of the kinds from 5 on; `half-read`, `lock-read`, each number below
 -- 2 ^ 16 has a record that reads as its half, and each two a record that reads as their lock; `same-halves`, on a good sheet two halves have the same
--- representative exactly when side and number are equal; `twelve-exactly`, row 12 holds of a lock whose key entry is not itself a half, and of nothing
+-- representative exactly when side and number are equal; `lock-step-right`, `lock-step-follows`, there rule 8 asks for the lock of its two sources and
+-- for nothing else; `twelve-exactly`, row 12 holds of a lock whose key entry is not itself a half, and of nothing
 -- else; `wrong-half-refused`, a sheet with such a lock in its first faulty entry is refused with 12, whatever comes after that entry;
 -- `forward-lock-refused`, 6 comes before 12 in one record; `closed-sheets`, five sheets and their refusals. Assumes nothing.
 use mathlib.Core.Path.{_≡_, refl, sym, ap, ap₂, _∙_, subst}
@@ -13,12 +14,15 @@ use native.Mathlib.Decide.{ℕ-discrete, decLt}
 use native.Mathlib.Omega.{arith}
 use borrow.Author.Tests.{eqb-true, eq-eqb, ne-eqb}
 use lib.ListN.{length, getD}
-use Rattle.deduction.specs.Term.{Side, private, public, Term, half, _≈_, same}
-use Rattle.deduction.specs.Entry.{Half, Aenc, build, termAt, parts}
-use Rattle.deduction.specs.Standard.{repAt}
+use Rattle.deduction.specs.Term.{Side, private, public, Term, half, aenc, _≈_, same}
+use Rattle.deduction.specs.Entry.{Half, Aenc, termAt, parts}
+use Rattle.deduction.specs.Standard.{halfKind, repAt}
+use Rattle.deduction.specs.Step.{step, Known, Open, Follows}
+use Rattle.deduction.specs.Replay.{Used, Right}
 use Rattle.deduction.proofs.Distinct.{half-same}
-use Rattle.deduction.proofs.Terms.{termAt-build}
 use Rattle.deduction.proofs.Standard.{rep-equal}
+use Rattle.deduction.proofs.Steps.Head.{half-term}
+use Rattle.deduction.proofs.Steps.Opener.{lock-right, lock-follows}
 use Rattle.dag.specs.Sheet.{numberAt, letters, countOf, beginAt, recordAt, listed}
 use Rattle.dag.specs.Record.{kindOf, fits, atomOf, decodeAs, entryAt}
 use Rattle.dag.specs.Refusal.{when, orElse, first, equal, anyFrom, noSheet, badCount, shortList, badPair, badPairs, badRecord, kindAt, wrongHalf, badRecordAt, badRecords, notListed, refusal}
@@ -46,18 +50,14 @@ pub no-length : (kind len : ℕ) → 8 ≤ kind → fits kind len ≡ false
 no-length kind len h = sym (fits-none kind len h)
 
 -- "the key pair with the 2-byte number that follows"; "Kind 7 is a lock: message entry, then key entry"
-unfoldable pub kindOfSide : Side → ℕ
-kindOfSide private = 5
-kindOfSide public = 6
-
 abbrev pub halfRecord : Side → ℕ → List ℕ
-halfRecord x a = kindOfSide x ∷ a / 256 ∷ a % 256 ∷ []
+halfRecord x a = halfKind x ∷ a / 256 ∷ a % 256 ∷ []
 
 abbrev pub lockRecord : ℕ → ℕ → List ℕ
 lockRecord m k = 7 ∷ m / 256 ∷ m % 256 ∷ k / 256 ∷ k % 256 ∷ []
 
 pub half-read : (x : Side) (a : ℕ) → a < 2 ^ 16 → Reads (halfRecord x a) (Half x a)
-unfolding fits decodeAs numberAt kindOfSide
+unfolding fits decodeAs numberAt halfKind
 half-read private a h = record { bytes = three-bytes 5 a (omega arith) h; fitting = refl; entry = ap (Half private) (two-bytes a) }
 half-read public a h = record { bytes = three-bytes 6 a (omega arith) h; fitting = refl; entry = ap (Half public) (two-bytes a) }
 
@@ -75,8 +75,7 @@ lock-read m k h l = record { bytes = small; fitting = refl; entry = ap₂ Aenc (
 
 module _ (s : List ℕ) (ok : refusal s ≡ 0) where
   term-half : (i : ℕ) (x : Side) (a : ℕ) → i < countOf s → entryAt s i ≡ Half x a → termAt (entryAt s) i ≡ half x a
-  unfolding build
-  term-half i x a h p = termAt-build (entryAt s) (countOf s) (good s ok .downward) i h ∙ ap (build (termAt (entryAt s))) p
+  term-half = half-term (entryAt s) (countOf s) (good s ok .downward)
 
   -- two halves of a good sheet have the same representative exactly when they are one half of one pair
   pub same-halves : (i j : ℕ) (x y : Side) (a b : ℕ) → i < countOf s → j < countOf s → entryAt s i ≡ Half x a → entryAt s j ≡ Half y b
@@ -86,6 +85,17 @@ module _ (s : List ℕ) (ok : refusal s ≡ 0) where
         λ p. half-same x y a b (subst (λ (t : Term). t ≈ half y b) (term-half i x a hi pi) (subst (λ (t : Term). termAt (entryAt s) i ≈ t) (term-half j y b hj pj) (alike .0 p))),
         λ p. alike .1 (subst (λ (t : Term). termAt (entryAt s) i ≈ t) (term-half i x a hi pi ∙ ap₂ half (p .0) (p .1) ∙ sym (term-half j y b hj pj)) same),
       )
+
+  -- "for rule 8 the gained head is the lock of the first under the second": on a good sheet a step by rule 8 is right, and follows, by this alone. That
+  -- the second is a half needn't be asked
+  pub lock-step-right : {g : List Term} {h i j : ℕ} → h < countOf s → Used (termAt (entryAt s)) (countOf s) g i → Used (termAt (entryAt s)) (countOf s) g j
+      → termAt (entryAt s) h ≈ aenc (termAt (entryAt s) i) (termAt (entryAt s) j) → Right (termAt (entryAt s)) (countOf s) g (step h 8 i j 0)
+  lock-step-right = lock-right (entryAt s) (countOf s) (good s ok .downward) (good s ok .halves)
+
+  pub lock-step-follows : {es : List ℕ} {h i j : ℕ} → Open (termAt (entryAt s)) (countOf s) es h → Known (termAt (entryAt s)) (countOf s) es i
+      → Known (termAt (entryAt s)) (countOf s) es j → termAt (entryAt s) h ≈ aenc (termAt (entryAt s) i) (termAt (entryAt s) j)
+      → Follows (termAt (entryAt s)) (countOf s) es (step h 8 i j 0)
+  lock-step-follows = lock-follows (entryAt s) (countOf s) (good s ok .downward) (good s ok .halves)
 
 -- 12 "when a lock's key entry is not itself of kind 5 or 6", and only then
 pub twelve-exactly : (s r : List ℕ) → (wrongHalf s r ≡ 12) ↔ ((kindOf r ≡ 7) × (kindAt s (numberAt r 3) ≡ 5 → ⊥) × (kindAt s (numberAt r 3) ≡ 6 → ⊥))

@@ -15,9 +15,9 @@ use lib.ListN.{length, getD, length-append, List·getD-append}
 use lib.Seq.{getD-append-seam}
 use Rattle.deduction.specs.Term.{Side, Term, 𝟎, atom}
 use Rattle.deduction.specs.Entry.{Entry, Zero, Atom, Pair, Enc, Sum, Half, Aenc, Downward, build, terms, termAt}
-use Rattle.deduction.specs.Standard.{Shape, halfKind, shape, setAt, repAt}
+use Rattle.deduction.specs.Standard.{Shape, shape, setAt, repAt}
 use Rattle.deduction.proofs.Standard.{rep-le, rep-rep}
-use Rattle.deduction.proofs.Standard.First.{both-true, shapeAt, half-kind, first-shape}
+use Rattle.deduction.proofs.Standard.First.{both-true, shapeAt, half-range, first-shape}
 use Rattle.deduction.proofs.Standard.Members.{rep-first}
 use Rattle.dag.specs.Sheet.{countOf, traceOf}
 use Rattle.dag.specs.Record.{kindOf, atomOf, decode, entryAt}
@@ -35,7 +35,7 @@ shape-atom s (Atom a) p = refl
 shape-atom s (Pair l r) p = absurd (omega (arith, p))
 shape-atom s (Enc m k) p = absurd (omega (arith, p))
 shape-atom s (Sum items) p = absurd (omega (arith, p))
-shape-atom s (Half x a) p = absurd (⊎-elim (λ (q : halfKind x ≡ 5). omega arith) (λ (q : halfKind x ≡ 6). omega arith) (half-kind x))
+shape-atom s (Half x a) p = absurd (omega (arith, p, half-range x))
 shape-atom s (Aenc m k) p = absurd (omega (arith, p))
 
 -- a list that rises, and a number above all of it

@@ -20,8 +20,9 @@ use Rattle.deduction.specs.Standard.{halfKind, least, shape, setAt, repAt}
 use Rattle.deduction.specs.Run.{isHalf, opener}
 use Rattle.deduction.proofs.Standard.{rep-le}
 use Rattle.deduction.proofs.Standard.Least.{least-same}
+use Rattle.deduction.proofs.Standard.First.{half-range}
 use Rattle.deduction.proofs.Steps.Head.{rep-below, rep-half}
-use Rattle.deduction.proofs.Steps.Opener.{half-is}
+use Rattle.deduction.proofs.Steps.Opener.{Halved, half-is}
 use Rattle.deduction.proofs.Forms.{aencs}
 use Rattle.dag.specs.Sheet.{countOf}
 use Rattle.dag.specs.Record.{entryAt}
@@ -53,11 +54,6 @@ numbers-same k a l b ha hb = go (eqb k l) (eqb a b) refl refl
     go true false p q = ne-eqb _ _ (λ (h : k * 2 ^ 32 + a ≡ l * 2 ^ 32 + b). eqb-false a b q (omega arith))
     go false y p q = ne-eqb _ _ (λ (h : k * 2 ^ 32 + a ≡ l * 2 ^ 32 + b). eqb-false k l p (omega arith))
 
-pub half-range : (s : Side) → (5 ≤ halfKind s) × (halfKind s ≤ 6)
-unfolding halfKind
-half-range private = (omega arith, omega arith)
-half-range public = (omega arith, omega arith)
-
 -- a number that no half's key can be
 outside : (x : ℕ) (z : Side) (a : ℕ) → a < 2 ^ 32 → (x < 5 * 2 ^ 32) ⊎ (7 * 2 ^ 32 ≤ x) → eqb x (halfKind z * 2 ^ 32 + a) ≡ false
 outside x z a h (inl l) = ne-eqb x (halfKind z * 2 ^ 32 + a) (λ (p : x ≡ halfKind z * 2 ^ 32 + a). omega (arith, half-range z))
@@ -81,7 +77,7 @@ half-test e n rep z a (Half s y) b x ha hd below q =
 half-test e n rep z a (Aenc l r) b x ha hd below q = outside x z a ha (inr (omega (arith, q)))
 
 module _ (e : ℕ → Entry) (n : ℕ) (down : Downward e n) (few : n ≤ 256) (narrow : Narrow e n)
-    (halves : (i m k : ℕ) → i < n → e i ≡ Aenc m k → (x : Side) × (a : ℕ) × (e k ≡ Half x a)) where
+    (halves : Halved e n) where
   -- a half's number has at most 32 bits
   number : (j : ℕ) (s : Side) (a : ℕ) → j < n → e j ≡ Half s a → a < 2 ^ 32
   unfolding numberOf

@@ -1,7 +1,7 @@
 -- What the three tables hold: line i has the key, the set of standard entries and the representative of entry i.
--- Defined: `RightLine`, one line of them; `Right`, they are right for the first n entries; `Sized`, the lengths; `Filled`, what filling them does;
--- `Opened`, the keys have what opens a lock in them; `openIn`, how it gets there; `Tabled`, the tables as they are read; `Finished`, what
--- making them does.
+-- Defined: `RightLine`, one line of them; `RightBy`, they are right for the first n entries, with keys by a function; `Sized`, the lengths; `FilledBy`,
+-- what filling them does. `Right` and `Filled`: with the keys of the entries; `Tabled` and `Finished`: the keys have what opens a lock in them, as the
+-- tables are read. `Opened`, that it was put there; `openIn`, how.
 use mathlib.Core.Path.{_≡_}
 use mathlib.Core.Bool.{cond}
 use mathlib.Core.List.{List, []}
@@ -27,9 +27,9 @@ pub record RightLine (e : ℕ → Entry) (i k : ℕ) (ws : List ℕ) (r : ℕ) :
   pub set : value ws ≡ setAt e i
   pub rep : r ≡ repAt e i
 
--- the tables are right for the first n entries
-pub record Right (e : ℕ → Entry) (n : ℕ) (keys : List ℕ) (sets : List (List ℕ)) (reps : List ℕ) : Type 0 where
-  pub key : (i : ℕ) → i < n → getD keys i 0 ≡ keyAt e i
+-- the tables are right for the first n entries, whose keys are `k`
+pub record RightBy (k : ℕ → ℕ) (e : ℕ → Entry) (n : ℕ) (keys : List ℕ) (sets : List (List ℕ)) (reps : List ℕ) : Type 0 where
+  pub key : (i : ℕ) → i < n → getD keys i 0 ≡ k i
   pub set : (i : ℕ) → i < n → value (getD sets i []) ≡ setAt e i
   pub rep : (i : ℕ) → i < n → getD reps i 0 ≡ repAt e i
 
@@ -40,12 +40,26 @@ pub record Sized (keys : List ℕ) (sets : List (List ℕ)) (reps : List ℕ) : 
   pub rep : length reps ≡ 256
 
 -- the tables after the first n entries were entered: their lines are right, and every other line is as it was
-pub record Filled (e : ℕ → Entry) (n : ℕ) (keys₀ : List ℕ) (sets₀ : List (List ℕ)) (reps₀ keys : List ℕ) (sets : List (List ℕ)) (reps : List ℕ) : Type 0 where
-  pub right : Right e n keys sets reps
+pub record FilledBy (k : ℕ → ℕ) (e : ℕ → Entry) (n : ℕ) (keys₀ : List ℕ) (sets₀ : List (List ℕ)) (reps₀ keys : List ℕ) (sets : List (List ℕ)) (reps : List ℕ) : Type 0 where
+  pub right : RightBy k e n keys sets reps
   pub sized : Sized keys sets reps
   pub keys-kept : (i : ℕ) → n ≤ i → getD keys i 0 ≡ getD keys₀ i 0
   pub sets-kept : (i : ℕ) → n ≤ i → getD sets i [] ≡ getD sets₀ i []
   pub reps-kept : (i : ℕ) → n ≤ i → getD reps i 0 ≡ getD reps₀ i 0
+
+-- as they are filled, entry by entry: the keys lack what opens a lock
+abbrev pub Right : (ℕ → Entry) → ℕ → List ℕ → List (List ℕ) → List ℕ → Type 0
+Right e = RightBy (keyAt e) e
+
+abbrev pub Filled : (ℕ → Entry) → ℕ → List ℕ → List (List ℕ) → List ℕ → List ℕ → List (List ℕ) → List ℕ → Type 0
+Filled e = FilledBy (keyAt e) e
+
+-- as they are read: the keys have it
+abbrev pub Tabled : (ℕ → Entry) → ℕ → List ℕ → List (List ℕ) → List ℕ → Type 0
+Tabled e n = RightBy (openKeyAt e n) e n
+
+abbrev pub Finished : (ℕ → Entry) → ℕ → List ℕ → List (List ℕ) → List ℕ → List ℕ → List (List ℕ) → List ℕ → Type 0
+Finished e n = FilledBy (openKeyAt e n) e n
 
 -- the key with what opens it, where the first n lines have the keys of all halves: a lock's opener is the first with the opposite key of its key's
 unfoldable pub openIn : List ℕ → ℕ → ℕ → ℕ
@@ -57,17 +71,3 @@ pub record Opened (e : ℕ → Entry) (n : ℕ) (keys₀ keys : List ℕ) : Type
   pub key : (i : ℕ) → i < n → getD keys i 0 ≡ openKeyAt e n i
   pub sized : length keys ≡ 256
   pub kept : (i : ℕ) → n ≤ i → getD keys i 0 ≡ getD keys₀ i 0
-
--- the tables as they are read: right for the first n entries, the keys with what opens a lock
-pub record Tabled (e : ℕ → Entry) (n : ℕ) (keys : List ℕ) (sets : List (List ℕ)) (reps : List ℕ) : Type 0 where
-  pub key : (i : ℕ) → i < n → getD keys i 0 ≡ openKeyAt e n i
-  pub set : (i : ℕ) → i < n → value (getD sets i []) ≡ setAt e i
-  pub rep : (i : ℕ) → i < n → getD reps i 0 ≡ repAt e i
-
--- such tables, and every line that no entry has as it was
-pub record Finished (e : ℕ → Entry) (n : ℕ) (keys₀ : List ℕ) (sets₀ : List (List ℕ)) (reps₀ keys : List ℕ) (sets : List (List ℕ)) (reps : List ℕ) : Type 0 where
-  pub right : Tabled e n keys sets reps
-  pub sized : Sized keys sets reps
-  pub keys-kept : (i : ℕ) → n ≤ i → getD keys i 0 ≡ getD keys₀ i 0
-  pub sets-kept : (i : ℕ) → n ≤ i → getD sets i [] ≡ getD sets₀ i []
-  pub reps-kept : (i : ℕ) → n ≤ i → getD reps i 0 ≡ getD reps₀ i 0

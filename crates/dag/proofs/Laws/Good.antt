@@ -8,8 +8,8 @@ use Prim.Native.Nat.{ℕ, _+_, _≤_, _<_}
 use borrow.Author.Tests.{ltb-false, leb-false, not-false}
 use lib.Dec.{ltb}
 use lib.ListN.{length, take}
-use Rattle.deduction.specs.Term.{Side}
-use Rattle.deduction.specs.Entry.{Half, Aenc, Downward}
+use Rattle.deduction.specs.Entry.{Downward}
+use Rattle.deduction.proofs.Steps.Opener.{Halved}
 use Rattle.dag.specs.Sheet.{letters, countOf, traceLength, goalOf, offsetAt, lengthAt, traceAt, recordsFrom, beginAt, recordAt}
 use Rattle.dag.specs.Record.{kindOf, fits, entryAt}
 use Rattle.dag.specs.Refusal.{orElse, equal, longest, noSheet, badCount, shortList, badPairs, badRecords, notListed, notListedAt, refusal}
@@ -30,7 +30,7 @@ pub record Good (s : List ℕ) : Type 0 where
   pub whole : beginAt s (countOf s) ≡ length s
   pub kinds : (i : ℕ) → i < countOf s → fits (kindOf (recordAt s i)) (length (recordAt s i)) ≡ true
   pub downward : Downward (entryAt s) (countOf s)
-  pub halves : (i m k : ℕ) → i < countOf s → entryAt s i ≡ Aenc m k → (x : Side) × (a : ℕ) × (entryAt s k ≡ Half x a)
+  pub halves : Halved (entryAt s) (countOf s)
   pub listed : (k : ℕ) → k < traceLength s → traceAt s k < countOf s
 
 module _ (s : List ℕ) (ok : refusal s ≡ 0) where

@@ -12,8 +12,8 @@ use borrow.Author.Tests.{ltb-false, leb-false, eqb-true, eqb-false, not-false}
 use lib.Dec.{eqb, ltb, leb}
 use lib.ListN.{length, drop, length-drop}
 use lib.Seq.{length-take-le}
-use Rattle.deduction.specs.Term.{Side}
-use Rattle.deduction.specs.Entry.{Half, Aenc, Downward, parts}
+use Rattle.deduction.specs.Entry.{Downward, parts}
+use Rattle.deduction.proofs.Steps.Opener.{Halved}
 use Rattle.dag.specs.Sheet.{countOf, traceLength, goalOf, offsetAt, lengthAt, beginAt, recordAt}
 use Rattle.dag.specs.Record.{kindOf, fits, entryAt}
 use Rattle.dag.specs.Refusal.{when, first, anyFrom, badCount, badPair, badPairs, badRecord, kindAt, badRecordAt, badRecords}
@@ -96,7 +96,7 @@ module _ (s : List ℕ) (row5 : badRecords s ≡ 0) where
   parts-below i j h m = anyFrom-none i (parts (entryAt s i)) (record-down i h) j m
 
   -- a lock's key entry is a half by its own record
-  pub key-half : (i m k : ℕ) → i < countOf s → entryAt s i ≡ Aenc m k → (x : Side) × (a : ℕ) × (entryAt s k ≡ Half x a)
+  pub key-half : Halved (entryAt s) (countOf s)
   key-half i m k h p =
       let r = recordAt s i in
       let lock = lock-record (kindOf r) r m k p in

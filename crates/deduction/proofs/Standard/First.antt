@@ -4,7 +4,7 @@
 -- is that first entry alone. Assumes nothing.
 use mathlib.Core.Path.{_≡_, refl, sym, ap, ap₂, _∙_}
 use mathlib.Core.Bool.{Bool, true, false, true≢false, false≢true, cond, _&&_}
-use mathlib.Core.Logic.{_⊎_, inl, inr, ⊎-elim, by-cases}
+use mathlib.Core.Logic.{by-cases}
 use Prim.Native.Nat.{ℕ, _^_, _≤_, _<_}
 use native.Mathlib.Decide.{decLt}
 use native.Mathlib.Omega.{arith}
@@ -47,13 +47,13 @@ abbrev pub Plain : (ℕ → Entry) → ℕ → Type 0
 Plain e i = ¬ (shapeAt e i .kind ≡ 0)
 
 -- a half's kind is 5 or 6
-pub half-kind : (x : Side) → (halfKind x ≡ 5) ⊎ (halfKind x ≡ 6)
+pub half-range : (s : Side) → (5 ≤ halfKind s) × (halfKind s ≤ 6)
 unfolding halfKind
-half-kind private = inl refl
-half-kind public = inr refl
+half-range private = (omega arith, omega arith)
+half-range public = (omega arith, omega arith)
 
 pub half-plain : (x : Side) → ¬ (halfKind x ≡ 0)
-half-plain x q = ⊎-elim (λ (p : halfKind x ≡ 5). omega arith) (λ (p : halfKind x ≡ 6). omega arith) (half-kind x)
+half-plain x q = omega (arith, half-range x)
 
 module _ (e : ℕ → Entry) where
   pub first-le : (i : ℕ) → first e i ≤ i

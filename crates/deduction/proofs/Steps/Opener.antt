@@ -1,6 +1,8 @@
 -- The entry that opens a lock: the first that is the opposite half of the lock's key.
+-- Defined: `Halved`, the key entry of every lock is itself a half.
 -- Shown: an entry that passes the test for a half is that half, and the other way round; where the opposite half is known, it is what the search takes;
--- what the search takes is the opposite half; a half without a record is not derivable. Assumes nothing.
+-- what the search takes is the opposite half; a half without a record is not derivable; where every lock's key entry is itself a half, rule 8 asks for
+-- nothing but the lock of its sources, in the order and in the replay. Assumes nothing.
 use mathlib.Core.Path.{_≡_, refl, sym, ap, ap₂, _∙_, subst}
 use mathlib.Core.Bool.{Bool, true, false, false≢true, _&&_}
 use mathlib.Core.List.{List, map, List·Memᴰ}
@@ -9,16 +11,23 @@ use native.Mathlib.Nat.{le-refl, lt-irrefl}
 use native.Mathlib.Omega.{arith}
 use lib.Dec.{eqb}
 use borrow.Author.Tests.{eqb-true, eq-eqb}
-use Rattle.deduction.specs.Term.{Side, private, public, opposite, Term, half, _≈_, flip, then}
+use Rattle.deduction.specs.Term.{Side, private, public, opposite, Term, half, aenc, _≈_, flip, then}
 use Rattle.deduction.specs.Entry.{Entry, Zero, Atom, Pair, Enc, Sum, Half, Aenc, termAt, Downward}
 use Rattle.deduction.specs.Standard.{halfKind, repAt}
 use Rattle.deduction.specs.Run.{isHalf, opener, anyHalf}
 use Rattle.deduction.specs.Derivation.{Derivable}
+use Rattle.deduction.specs.Step.{step, Known, Open, Follows}
+use Rattle.deduction.specs.Replay.{Used, Right}
 use Rattle.deduction.proofs.Exactness.{half-not-gained}
 use Rattle.deduction.proofs.Standard.{rep-rep, rep-same, rep-least}
 use Rattle.deduction.proofs.Standard.First.{both-true}
 use Rattle.deduction.proofs.Standard.Least.{least-le, least-found, least-only}
-use Rattle.deduction.proofs.Steps.Head.{rep-below, half-record, half-term}
+use Rattle.deduction.proofs.Forms.{aencs}
+use Rattle.deduction.proofs.Steps.Head.{rep-below, form-record, half-record, half-term}
+
+-- what row 12 leaves: a lock's key entry is itself a half
+abbrev pub Halved : (ℕ → Entry) → ℕ → Type 0
+Halved e n = (i m k : ℕ) → i < n → e i ≡ Aenc m k → (s : Side) × (a : ℕ) × (e k ≡ Half s a)
 
 -- a half's kind has its side
 pub kind-side : (s z : Side) → halfKind s ≡ halfKind z → s ≡ z
@@ -100,3 +109,21 @@ module _ (e : ℕ → Entry) (n : ℕ) (down : Downward e n) where
   half-unwritten start low s a none =
       half-not-gained e n down start low s a
       (λ i l q. none (repAt e i) (rep-below e n down i l) (half-record e n down (repAt e i) s a (rep-below e n down i l) (rep-rep e i) (then (rep-same e n down i l) q)))
+
+  module _ (halved : Halved e n) where
+    -- an entry that is the same as a lock is the same as one under a half
+    locked-half : (h : ℕ) {m k : Term} → h < n → termAt e h ≈ aenc m k → (s : Side) × (a : ℕ) × (k ≈ half s a)
+    locked-half h {k = k} l q =
+        let r = repAt e h in
+        let lr = rep-below e n down h l in
+        let (x, y, p, lx, ly, sx, sy) = form-record e n down aencs r lr (rep-rep e h) (then (rep-same e n down h l) q) in
+        let (s, a, z) = halved r x y lr p in
+        (s, a, subst (λ (u : Term). k ≈ u) (half-term e n down y s a ly z) (flip sy))
+
+    -- "for rule 8 the gained head is the lock of the first under the second"
+    pub lock-right : {g : List Term} {h i j : ℕ} → h < n → Used (termAt e) n g i → Used (termAt e) n g j → termAt e h ≈ aenc (termAt e i) (termAt e j) → Right (termAt e) n g (step h 8 i j 0)
+    lock-right {h = h} l p c q = let (s, a, r) = locked-half h l q in Right.aencrypt s a l p c q r
+
+    pub lock-follows : {es : List ℕ} {h i j : ℕ} → Open (termAt e) n es h → Known (termAt e) n es i → Known (termAt e) n es j → termAt e h ≈ aenc (termAt e i) (termAt e j)
+        → Follows (termAt e) n es (step h 8 i j 0)
+    lock-follows {h = h} o m c q = let (s, a, r) = locked-half h (o .0 .0) q in Follows.aencrypt s a o m c q r

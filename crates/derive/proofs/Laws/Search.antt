@@ -22,7 +22,7 @@ use Rattle.deduction.specs.Run.{number, noStep, opener, anyHalf, offer, opened,
 use Rattle.deduction.proofs.Standard.{rep-le}
 use Rattle.deduction.proofs.Forms.{Form, pairs, encs, aencs, formEntry}
 use Rattle.deduction.proofs.Steps.Head.{rep-half}
-use Rattle.deduction.proofs.Steps.Opener.{opener-le}
+use Rattle.deduction.proofs.Steps.Opener.{Halved, opener-le}
 use Rattle.deduction.proofs.Steps.Numbers.{number-head, number-rule, number-first, number-below, least-one, chosen}
 use Rattle.deduction.proofs.Steps.Found.{all-offers, only-if, only-unless}
 use Rattle.dag.specs.Sheet.{countOf}
@@ -33,7 +33,7 @@ use Rattle.canonical.specs.Inner.Key.{keyOf, keyAt, keyKind, keyLeft, keyRight,
 use Rattle.canonical.specs.Inner.Tables.{Tabled}
 use Rattle.canonical.proofs.Laws.Key.{numberOf, Narrow, key-form}
 use Rattle.canonical.proofs.Laws.Record.{Bytes, narrow-bytes}
-use Rattle.canonical.proofs.Laws.Opener.{half-range}
+use Rattle.deduction.proofs.Standard.First.{half-range}
 use Rattle.knowledge.specs.Inner.Rows.{Remainders}
 use Rattle.knowledge.specs.Inner.State.{stateOf}
 use Rattle.derive.specs.Inner.Search.{offered, openedLeast, bothKnown, builtLeast, lockLeast, lineLeast, searchLeast, secondIn, lineStep, stepIn}
@@ -231,7 +231,7 @@ abbrev pub nothing-left : List (List ℕ) → ℕ → Bool
 nothing-left remainders i = eqb (value (getD remainders i [])) 0
 
 module _ (e : ℕ → Entry) (n : ℕ) (down : Downward e n) (few : n ≤ 256) (narrow : Narrow e n)
-    (halves : (i m k : ℕ) → i < n → e i ≡ Aenc m k → (x : Side) × (a : ℕ) × (e k ≡ Half x a))
+    (halves : Halved e n)
     (keys : List ℕ) (sets : List (List ℕ)) (reps : List ℕ) (right : Tabled e n keys sets reps) where
   -- the key of a lock is a half
   key-half : (i m k : ℕ) → i < n → e i ≡ Aenc m k → anyHalf (e (repAt e k)) ≡ true

@@ -22,7 +22,7 @@ use Rattle.dag.specs.Record.{entryAt}
 use Rattle.dag.specs.Refusal.{refusal}
 use Rattle.dag.proofs.Laws.Good.{good}
 use Rattle.canonical.specs.Inner.Key.{keyOf, openerOf, openKeyAt}
-use Rattle.canonical.proofs.Laws.Opener.{half-range}
+use Rattle.deduction.proofs.Standard.First.{half-range}
 use Rattle.start.specs.Start.{isPublic, publicHeads, startEntries, startHeads}
 use Rattle.start.specs.Inner.State.{publicKey, Keyed}
 use Rattle.start.proofs.Public.{public-only, public-own}
