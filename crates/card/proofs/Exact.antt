@@ -7,6 +7,7 @@ use mathlib.Core.List.{List, _++_}
 use Prim.Native.Nat.{ℕ, _≤_}
 use lib.Count.{ones}
 use lib.ListN.{length}
+use Rattle.deduction.specs.Setting.{every}
 use Rattle.deduction.specs.Derivation.{Derivable}
 use Rattle.deduction.specs.Run.{Verdict, derivable, underivable, exhausted, Outcome, knowledge}
 use Rattle.dag.specs.Sheet.{traceLength}
@@ -22,23 +23,23 @@ use Rattle.card.specs.Card.{stepsText, verdictText, cutText, isReached}
 
 module _ (s : List ℕ) (cut : ℕ) (ok : refusal s ≡ 0) (within : cut ≤ traceLength s) where
   abbrev o : Outcome
-  o = outcomeOf s cut 256
+  o = outcomeOf every s cut 256
 
   abbrev known : ℕ
   known = ones (knowledge (entryAt s) (o .learnt) .known)
 
   -- "out of reach" is printed exactly when the goal is
-  pub out-exact : (isReached (o .verdict) ≡ false) ↔ (¬ Derivable (startTerms s cut) (goalTerm s))
+  pub out-exact : (isReached (o .verdict) ≡ false) ↔ (¬ Derivable every (startTerms s cut) (goalTerm s))
   unfolding isReached
   out-exact = ((λ p. exact .0 (is (o .verdict) refl p)), λ n. ap isReached (exact .1 n))
     where
-      exact : (o .verdict ≡ underivable) ↔ (¬ Derivable (startTerms s cut) (goalTerm s))
-      exact = run-iff s cut 256 ok within (good s ok .few)
+      exact : (o .verdict ≡ underivable) ↔ (¬ Derivable every (startTerms s cut) (goalTerm s))
+      exact = run-iff every s cut 256 ok within (good s ok .few)
 
       is : (v : Verdict) → o .verdict ≡ v → isReached (o .verdict) ≡ false → o .verdict ≡ underivable
       is derivable p q = absurd (false≢true (sym q ∙ ap isReached p))
       is underivable p q = p
-      is exhausted p q = absurd (run-ends s cut 256 ok within (good s ok .few) p)
+      is exhausted p q = absurd (run-ends every s cut 256 ok within (good s ok .few) p)
 
   -- what is printed in the two cases
   pub text-out : isReached (o .verdict) ≡ false → cutText s cut ≡ outLine cut known
@@ -48,7 +49,7 @@ module _ (s : List ℕ) (cut : ℕ) (ok : refusal s ≡ 0) (within : cut ≤ tra
       go : (v : Verdict) → o .verdict ≡ v → isReached (o .verdict) ≡ false → cutText s cut ≡ outLine cut known
       go derivable e q = absurd (false≢true (sym q ∙ ap isReached e))
       go underivable e q = ap (λ (v : Verdict). verdictText cut v known (o .steps)) e
-      go exhausted e q = absurd (run-ends s cut 256 ok within (good s ok .few) e)
+      go exhausted e q = absurd (run-ends every s cut 256 ok within (good s ok .few) e)
 
   pub text-reached : isReached (o .verdict) ≡ true → cutText s cut ≡ reachedLine cut (length (o .steps)) ++ stepsText (o .steps)
   unfolding isReached cutText verdictText

@@ -7,7 +7,7 @@ use Rattle.deduction.specs.Term.{opposite}
 use Rattle.deduction.specs.Entry.{parts}
 use Rattle.deduction.specs.Standard.{halfKind, shape, alike, least, xorAll, firstAlike, standardSet, buildSet, sets, setAt, repAt}
 use Rattle.deduction.specs.Elimination.{take-off, reduceFrom, reduce, addRow, learnAs, learnAll, nothing}
-use Rattle.deduction.specs.Run.{isHalf, opener, anyHalf, knowledge, offer, opened, built, offers, allOffers, leastOf, isSumOf, nextNumber, secondPart, expand, stepAt, after, reached, nextStep, goesOn, ended, run}
+use Rattle.deduction.specs.Run.{isHalf, opener, anyHalf, knowledge, byRule, offer, opened, built, offers, allOffers, leastOf, isSumOf, nextNumber, secondPart, expand, stepAt, after, reached, nextStep, goesOn, ended, run}
 use Rattle.dag.specs.Sheet.{numberAt, beginAt, listed}
 use Rattle.dag.specs.Record.{fits, atomOf, decodeAs}
 use Rattle.dag.specs.Refusal.{when, orElse, first, equal, anyFrom, noSheet, badCount, shortList, badPair, badPairs, badRecord, wrongHalf, badRecordAt, badRecords, notListed, refusal}
@@ -21,5 +21,5 @@ use Rattle.card.specs.Card.{stepsText, verdictText, cutText, isReached, 
 
 -- the whole card: "goal 3 heard 3", three cuts out of reach, "cut 3 reached rungs 2", "rung 0 sum 1 2", "rung 3 open 4 0"
 card-example : cardOf sheetA ≡ goalLine 3 3 ++ (outLine 0 0 ++ (outLine 1 1 ++ (outLine 2 2 ++ (reachedLine 3 2 ++ (stepLine 0 6 65535 65535 6 ++ stepLine 3 3 4 0 0)))))
-unfolding cardOf cutsFrom cutText verdictText isReached stepsText digits decimal sources ruleText answerOf outcomeOf refusalOf refusal noSheet badCount shortList badPair badPairs badRecord wrongHalf badRecordAt badRecords notListed when orElse first equal anyFrom fits atomOf decodeAs numberAt beginAt listed parts halfKind opposite shape alike least xorAll firstAlike standardSet buildSet sets setAt repAt isPublic publicHeads take-off reduceFrom reduce addRow learnAs learnAll nothing isHalf opener anyHalf knowledge offer opened built offers allOffers leastOf isSumOf nextNumber secondPart expand stepAt after reached nextStep goesOn ended run member insert highest leading ones onesIn
+unfolding cardOf cutsFrom cutText verdictText isReached stepsText digits decimal sources ruleText answerOf outcomeOf refusalOf refusal noSheet badCount shortList badPair badPairs badRecord wrongHalf badRecordAt badRecords notListed when orElse first equal anyFrom fits atomOf decodeAs numberAt beginAt listed parts halfKind opposite shape alike least xorAll firstAlike standardSet buildSet sets setAt repAt isPublic publicHeads take-off reduceFrom reduce addRow learnAs learnAll nothing isHalf opener anyHalf knowledge byRule offer opened built offers allOffers leastOf isSumOf nextNumber secondPart expand stepAt after reached nextStep goesOn ended run member insert highest leading ones onesIn
 card-example = refl

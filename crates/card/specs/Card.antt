@@ -6,6 +6,7 @@ use mathlib.Core.List.{List, [], _∷_, _++_}
 use lib.Count.{ones}
 use lib.Dec.{eqb}
 use lib.ListN.{length}
+use Rattle.deduction.specs.Setting.{every}
 use Rattle.deduction.specs.Step.{Step}
 use Rattle.deduction.specs.Run.{Verdict, derivable, underivable, exhausted, knowledge}
 use Rattle.dag.specs.Sheet.{goalOf, traceLength}
@@ -31,7 +32,7 @@ verdictText cut exhausted known steps = []
 -- "`known` is the number of ones in the gained set"
 unfoldable pub cutText : List ℕ → ℕ → List ℕ
 cutText s cut =
-    verdictText cut (outcomeOf s cut 256 .verdict) (ones (knowledge (entryAt s) (outcomeOf s cut 256 .learnt) .known)) (outcomeOf s cut 256 .steps)
+    verdictText cut (outcomeOf every s cut 256 .verdict) (ones (knowledge (entryAt s) (outcomeOf every s cut 256 .learnt) .known)) (outcomeOf every s cut 256 .steps)
 
 unfoldable pub isReached : Verdict → Bool
 isReached derivable = true
@@ -41,7 +42,7 @@ isReached exhausted = false
 -- "There is one line a cut, up to the first reached": of the k cuts from cut c on
 unfoldable pub cutsFrom : List ℕ → ℕ → ℕ → List ℕ
 cutsFrom s c zero = []
-cutsFrom s c (suc k) = cutText s c ++ cond (isReached (outcomeOf s c 256 .verdict)) [] (cutsFrom s (suc c) k)
+cutsFrom s c (suc k) = cutText s c ++ cond (isReached (outcomeOf every s c 256 .verdict)) [] (cutsFrom s (suc c) k)
 
 -- "The first line has the goal's entry and h." Then the cuts from 0 to h. "A refused sheet prints `refused` and the number, and nothing else"
 unfoldable pub cardOf : List ℕ → List ℕ

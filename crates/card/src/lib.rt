@@ -3,6 +3,7 @@ ghost use mathlib.Core.Path.{_≡_};
 ghost use mathlib.Core.Bool.{true, not};
 ghost use Prim.Native.Nat.{_+_, _*_, _≤_};
 ghost use lib.ListN.{length};
+ghost use Rattle.deduction.specs.Setting.{every};
 ghost use Rattle.dag.specs.Sheet.{traceLength};
 ghost use Rattle.dag.specs.Refusal.{refusal};
 ghost use Rattle.verdict.specs.Answer.{outcomeOf};
@@ -53,7 +54,7 @@ fn append_cut(out: &mut [u8], at: usize, sheet: &[u8], cut: u16, buffer: &mut [u
     requires { ⌜ (refusal (now sheet) ≡ 0) × (cut ≤ traceLength (now sheet)) × (length (now buffer) ≡ front + 40 * 256) × (at + 268864 ≤ length (now out)) ⌝ }
     ensures text { λ r. ⌜ Appended (now (out .entry)) at (cutText (now (sheet .entry)) cut) (now (out .exit)) (r .end) ⌝ }
     ensures short { λ r. ⌜ (r .more ≡ true → r .end ≤ at + 64) ⌝ }
-    ensures more { λ r. ⌜ r .more ≡ not (isReached (outcomeOf (now (sheet .entry)) cut 256 .verdict)) ⌝ }
+    ensures more { λ r. ⌜ r .more ≡ not (isReached (outcomeOf every (now (sheet .entry)) cut 256 .verdict)) ⌝ }
     ensures size { λ _. ⌜ length (now (buffer .exit)) ≡ front + 40 * 256 ⌝ }
 {
     let answer = verdict::zuwendryk_verdict(sheet, cut as u32, 256, buffer);

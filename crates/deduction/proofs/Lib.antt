@@ -1,5 +1,5 @@
 -- Reading order: the code of a term, equality decided by it, terms with two parts, the terms of entries, exactness, elimination, the sets of standard entries,
--- the steps of a run, its verdicts and its replay.
+-- the steps of a run, its verdicts and its replay, and what the rules switched on bring.
 pub mod Coding
 pub mod Pieces
 pub mod Forms
@@ -9,4 +9,5 @@ pub mod Exactness
 pub mod Elimination
 pub mod Standard
 pub mod Steps
+pub mod Settings
 pub mod Examples

@@ -1,8 +1,9 @@
--- Reading order: terms and their equality, what an intruder can derive, the terms of a sheet's entries, their sets of standard entries and their
+-- Reading order: terms and their equality, which rules an intruder has, what he can derive with them, the terms of a sheet's entries, their sets of standard entries and their
 -- representatives, the steps in their order, the course of the work, the replay, and what is missing of an entry. Then the elimination that decides
 -- sums and the run: what the program computes, which nobody has to believe for a verdict (`run-course`, proofs/Steps/Course.antt;
 -- `missing-found`, proofs/Steps/Missing.antt).
 pub mod Term
+pub mod Setting
 pub mod Derivation
 pub mod Entry
 pub mod Standard

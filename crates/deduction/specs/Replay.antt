@@ -1,5 +1,5 @@
 -- The replay of steps (document 01: "Ladders and their replay"): a list of terms, and steps that are right or wrong at it.
--- Defined: `Right`, a step that is right at a state; `Replays`, right steps in a row, with the state before and after.
+-- Defined: `Right`, a step that is right at a state; `Replays`, right steps in a row by rules that are switched on, with the state before and after.
 -- Nothing here knows of the search, the run, the heads or the elimination.
 use Prim.Native.Nat.{ℕ, _<_}
 use mathlib.Core.Path.{_≡_}
@@ -7,9 +7,10 @@ use mathlib.Core.Bool.{true}
 use mathlib.Core.List.{List, [], _∷_}
 use Rattle.bitset.specs.Set.{member}
 use Rattle.deduction.specs.Term.{Side, opposite, Term, pair, enc, half, aenc, _≈_}
+use Rattle.deduction.specs.Setting.{Setting}
 use Rattle.deduction.specs.Derivation.{Holds}
 use Rattle.deduction.specs.Standard.{sumOfSet}
-use Rattle.deduction.specs.Step.{Step, step, unused}
+use Rattle.deduction.specs.Step.{Step, step, unused, Allowed}
 
 -- "Entry numbers stand for their terms": the entries' terms are `t`, and there are n
 module _ (t : ℕ → Term) (n : ℕ) where
@@ -35,8 +36,10 @@ module _ (t : ℕ → Term) (n : ℕ) where
     -- "for rule 8 the gained head is the lock of the first under the second", which is a half
     aencrypt : {h i j : ℕ} (s : Side) (a : ℕ) → h < n → Used g i → Used g j → t h ≈ aenc (t i) (t j) → t j ≈ half s a → Right g (step h 8 i j 0)
 
+module _ (on : Setting) (t : ℕ → Term) (n : ℕ) where
   -- "It takes the rungs in order .. A right rung adds its gained head's term to the state. Any other rung is wrong and ends the replay".
-  -- `Replays g ss a`: from the state g all steps of ss are right, and the state at the end is a
+  -- `Replays on t n g ss a`: from the state g all steps of ss are right, and the state at the end is a. Document 02, E11: "a ladder returned uses no
+  -- other" rule than those switched on
   pub data Replays : List Term → List Step → List Term → Type 0 where
     done : {g : List Term} → Replays g [] g
-    next : {g a : List Term} {s : Step} {ss : List Step} → Right g s → Replays (t (s .head) ∷ g) ss a → Replays g (s ∷ ss) a
+    next : {g a : List Term} {s : Step} {ss : List Step} → Allowed on s → Right t n g s → Replays (t (s .head) ∷ g) ss a → Replays g (s ∷ ss) a

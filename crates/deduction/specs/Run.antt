@@ -6,6 +6,7 @@ use mathlib.Core.List.{List, [], _∷_, _++_}
 use lib.Dec.{eqb}
 use Rattle.bitset.specs.Set.{member}
 use Rattle.deduction.specs.Term.{opposite}
+use Rattle.deduction.specs.Setting.{Setting}
 use Rattle.deduction.specs.Entry.{Entry, Zero, Atom, Pair, Enc, Sum, Half, Aenc}
 use Rattle.deduction.specs.Standard.{halfKind, least, setAt, repAt}
 use Rattle.deduction.specs.Elimination.{Knowledge, reduce, learnAll, nothing}
@@ -54,11 +55,15 @@ anyHalf (Sum items) = false
 anyHalf (Half s a) = true
 anyHalf (Aenc m k) = false
 
--- The steps that follow, as numbers, for n entries `e`, a known set g and a test whether an entry is a sum of known ones
-module _ (e : ℕ → Entry) (n g : ℕ) where
+-- the head h by rule r from i, where the rule is switched on
+unfoldable pub byRule : Setting → ℕ → ℕ → ℕ → List ℕ
+byRule on h r i = cond (on r) (number h r i ∷ []) []
+
+-- The steps that follow, as numbers, for the rules switched on, n entries `e`, a known set g and a test whether an entry is a sum of known ones
+module _ (on : Setting) (e : ℕ → Entry) (n g : ℕ) where
   -- the head h by rule r from i, unless h is known
   unfoldable pub offer : ℕ → ℕ → ℕ → List ℕ
-  offer h r i = cond (member g h) [] (number h r i ∷ [])
+  offer h r i = cond (member g h) [] (byRule on h r i)
 
   -- what a known entry gives: its parts, or its message where its key is known, or for a lock the opposite half of its key
   unfoldable pub opened : ℕ → Entry → List ℕ
@@ -74,17 +79,17 @@ module _ (e : ℕ → Entry) (n g : ℕ) where
   unfoldable pub built : ℕ → Entry → List ℕ
   built i Zero = []
   built i (Atom a) = []
-  built i (Pair l r) = cond (member g (repAt e l) && member g (repAt e r)) (number i 4 (repAt e l) ∷ []) []
-  built i (Enc m k) = cond (member g (repAt e m) && member g (repAt e k)) (number i 5 (repAt e m) ∷ []) []
+  built i (Pair l r) = cond (member g (repAt e l) && member g (repAt e r)) (byRule on i 4 (repAt e l)) []
+  built i (Enc m k) = cond (member g (repAt e m) && member g (repAt e k)) (byRule on i 5 (repAt e m)) []
   built i (Sum items) = []
   built i (Half s a) = []
-  built i (Aenc m k) = cond (anyHalf (e (repAt e k)) && (member g (repAt e m) && member g (repAt e k))) (number i 8 (repAt e m) ∷ []) []
+  built i (Aenc m k) = cond (anyHalf (e (repAt e k)) && (member g (repAt e m) && member g (repAt e k))) (byRule on i 8 (repAt e m)) []
 
   module _ (isSum : ℕ → Bool) where
     -- the steps that head i gives or is gained by
     unfoldable pub offers : ℕ → List ℕ
     offers i =
-        cond (eqb (repAt e i) i) (cond (member g i) (opened i (e i)) (built i (e i) ++ cond (isSum i) (number i 6 0 ∷ []) [])) []
+        cond (eqb (repAt e i) i) (cond (member g i) (opened i (e i)) (built i (e i) ++ cond (isSum i) (byRule on i 6 0) [])) []
 
     -- of the first m entries
     unfoldable pub allOffers : ℕ → List ℕ
@@ -101,8 +106,8 @@ unfoldable pub isSumOf : (ℕ → Entry) → Knowledge → ℕ → Bool
 isSumOf e k i = eqb (reduce (k .rows) (setAt e i) .remainder) 0
 
 -- the number of the next step, and noStep where nothing follows
-unfoldable pub nextNumber : (ℕ → Entry) → ℕ → Knowledge → ℕ
-nextNumber e n k = leastOf noStep (allOffers e n (k .known) (isSumOf e k) n)
+unfoldable pub nextNumber : Setting → (ℕ → Entry) → ℕ → Knowledge → ℕ
+nextNumber on e n k = leastOf noStep (allOffers on e n (k .known) (isSumOf e k) n)
 
 -- the second entry number in a record: a pair's right, the key of an encryption of either sort
 unfoldable pub secondPart : Entry → ℕ
@@ -144,27 +149,27 @@ unfoldable pub reached : (ℕ → Entry) → ℕ → Knowledge → Bool
 reached e goal k = member (k .known) (repAt e goal)
 
 -- the step that comes next
-unfoldable pub nextStep : (ℕ → Entry) → ℕ → List ℕ → Step
-nextStep e n es = stepAt e n (knowledge e es) (nextNumber e n (knowledge e es))
+unfoldable pub nextStep : Setting → (ℕ → Entry) → ℕ → List ℕ → Step
+nextStep on e n es = stepAt e n (knowledge e es) (nextNumber on e n (knowledge e es))
 
 -- does a step follow, with the goal not known?
-unfoldable pub goesOn : (ℕ → Entry) → ℕ → ℕ → List ℕ → Bool
-goesOn e n goal es = not (reached e goal (knowledge e es)) && not (eqb (nextNumber e n (knowledge e es)) noStep)
+unfoldable pub goesOn : Setting → (ℕ → Entry) → ℕ → ℕ → List ℕ → Bool
+goesOn on e n goal es = not (reached e goal (knowledge e es)) && not (eqb (nextNumber on e n (knowledge e es)) noStep)
 
 -- no step more is made: the goal is known, or nothing follows, or else the budget is used up
-unfoldable pub ended : (ℕ → Entry) → ℕ → ℕ → List ℕ → Outcome
-ended e n goal es =
+unfoldable pub ended : Setting → (ℕ → Entry) → ℕ → ℕ → List ℕ → Outcome
+ended on e n goal es =
     record {
-      verdict = cond (reached e goal (knowledge e es)) derivable (cond (eqb (nextNumber e n (knowledge e es)) noStep) underivable exhausted);
+      verdict = cond (reached e goal (knowledge e es)) derivable (cond (eqb (nextNumber on e n (knowledge e es)) noStep) underivable exhausted);
       steps = [];
       learnt = es;
     }
 
 -- "The work ends when the goal is gained, when no rung follows, or when the budget b .. is used up". The start is any list of heads
-unfoldable pub run : (ℕ → Entry) → ℕ → ℕ → ℕ → List ℕ → Outcome
-run e n goal zero es = ended e n goal es
-run e n goal (suc b) es =
-    elim (goesOn e n goal es) [
-      | true ↦ after (nextStep e n es) (run e n goal b (es ++ (nextStep e n es .head ∷ [])))
-      | false ↦ ended e n goal es
+unfoldable pub run : Setting → (ℕ → Entry) → ℕ → ℕ → ℕ → List ℕ → Outcome
+run on e n goal zero es = ended on e n goal es
+run on e n goal (suc b) es =
+    elim (goesOn on e n goal es) [
+      | true ↦ after (nextStep on e n es) (run on e n goal b (es ++ (nextStep on e n es .head ∷ [])))
+      | false ↦ ended on e n goal es
     ]

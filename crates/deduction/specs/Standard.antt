@@ -1,5 +1,5 @@
 -- Each entry's set of standard entries and its representative (document 01: head), computed from the entries alone.
--- Defined: `setAt`, `repAt`, `standard`, `StandardSet`, `sumOfSet`. A set of entries is one number (crate `bitset`).
+-- Defined: `setAt`, `repAt`, `standard`, `StandardSet`, `sumOfSet`, `OwnSet`. A set of entries is one number (crate `bitset`).
 use Prim.Native.Nat.{ℕ, zero, suc, _^_, _<_}
 use mathlib.Core.Path.{_≡_}
 use mathlib.Core.Bool.{Bool, true, _&&_, not, cond}
@@ -8,8 +8,8 @@ use lib.Bits.{bitXor}
 use lib.Dec.{eqb, ltb}
 use lib.ListN.{getD}
 use Rattle.bitset.specs.Set.{member}
-use Rattle.deduction.specs.Term.{Side, private, public, Term, 𝟎, _⊕_}
-use Rattle.deduction.specs.Entry.{Entry, Zero, Atom, Pair, Enc, Sum, Half, Aenc}
+use Rattle.deduction.specs.Term.{Side, private, public, Term, 𝟎, _⊕_, _≈_}
+use Rattle.deduction.specs.Entry.{Entry, Zero, Atom, Pair, Enc, Sum, Half, Aenc, termAt}
 
 -- what tells two terms of kinds 1 to 3 and 5 to 7 apart: the kind, and the number or the sets of the two parts. Kind 0 for zero and sums
 pub record Shape : Type 0 where
@@ -86,3 +86,7 @@ StandardSet e n u = (k : ℕ) → member u k ≡ true → (k < n) × (standard e
 unfoldable pub sumOfSet : (ℕ → Term) → ℕ → ℕ → Term
 sumOfSet t zero s = 𝟎
 sumOfSet t (suc n) s = cond (member s n) (t n ⊕ sumOfSet t n s) (sumOfSet t n s)
+
+-- "Every entry's term is the sum of exactly one set of standard entries", over terms: u is the own set of entry i
+abbrev pub OwnSet : (ℕ → Entry) → ℕ → ℕ → ℕ → Type 0
+OwnSet e n i u = StandardSet e n u × (termAt e i ≈ sumOfSet (termAt e) n u)

@@ -1,6 +1,6 @@
 -- Steps (document 01: rungs): what follows from the known entries by one rule, and which step comes next.
--- Defined: `Step`; `Follows`, the steps that the rules allow, over terms; `Before`, document 01's order; `IsNext`, the step that the order
--- names. Nothing here searches.
+-- Defined: `Step`; `Follows`, the steps that the eight rules allow, over terms; `FollowsIn`, those whose rule is switched on; `Before`, document 01's
+-- order; `IsNext`, the step that the order names. Nothing here searches.
 use Prim.Native.Nat.{ℕ, _<_}
 use mathlib.Core.Path.{_≡_}
 use mathlib.Core.Bool.{true}
@@ -8,6 +8,7 @@ use mathlib.Core.Logic.{_⊎_}
 use mathlib.Core.List.{List, _∷_, _++_, map, List·Memᴰ}
 use Rattle.bitset.specs.Set.{member}
 use Rattle.deduction.specs.Term.{Side, opposite, Term, pair, enc, half, aenc, sumOf, _≈_}
+use Rattle.deduction.specs.Setting.{Setting}
 use Rattle.deduction.specs.Standard.{sumOfSet}
 
 -- "gained head, rule, first source, second source .. and a .. set of summed sources"
@@ -56,12 +57,20 @@ module _ (t : ℕ → Term) (n : ℕ) where
       adecrypt : {h i j : ℕ} (s : Side) (a : ℕ) → Open h → Known i → Known j → t i ≈ aenc (t h) (half s a) → t j ≈ half (opposite s) a → Follows (step h 7 i j 0)
       aencrypt : {h i j : ℕ} (s : Side) (a : ℕ) → Open h → Known i → Known j → t h ≈ aenc (t i) (t j) → t j ≈ half s a → Follows (step h 8 i j 0)
 
+-- document 02, E11: the step's rule is switched on
+abbrev pub Allowed : Setting → Step → Type 0
+Allowed on s = on (s .rule) ≡ true
+
 -- "the lowest head .. The lowest rule number .. then the lowest first source"
 abbrev pub Before : Step → Step → Type 0
 Before a b = (a .head < b .head) ⊎ ((a .head ≡ b .head) × ((a .rule < b .rule) ⊎ ((a .rule ≡ b .rule) × (a .first < b .first))))
 
-module _ (t : ℕ → Term) (n : ℕ) where
+module _ (on : Setting) (t : ℕ → Term) (n : ℕ) (es : List ℕ) where
+  -- what follows by a rule that is switched on
+  abbrev pub FollowsIn : Step → Type 0
+  FollowsIn s = Allowed on s × Follows t n es s
+
   -- "The next rung gains the lowest head that isn't gained and follows by one rule. The lowest rule number is used, then the lowest first
   -- source"
-  abbrev pub IsNext : List ℕ → Step → Type 0
-  IsNext es s = Follows t n es s × ((r : Step) → Follows t n es r → ¬ (Before r s))
+  abbrev pub IsNext : Step → Type 0
+  IsNext s = FollowsIn s × ((r : Step) → FollowsIn r → ¬ (Before r s))

@@ -1,5 +1,6 @@
 // The steps of the intruder: which comes next, and the run that makes them.
 mod next;
+pub mod rules;
 pub mod run;
 mod writer;
 

@@ -7,10 +7,12 @@ ghost use lib.ListN.{length};
 ghost use Rattle.bitset.specs.Words.{value};
 ghost use Rattle.knowledge.specs.Inner.Rows.{rowsOf};
 ghost use Rattle.derive.specs.Bytes.{stepOf};
+ghost use Rattle.deduction.specs.Setting.{switches};
 ghost use Rattle.deduction.specs.Run.{number, noStep};
 ghost use Rattle.deduction.specs.Step.{step};
-ghost use Rattle.derive.specs.Inner.Search.{offered, openedLeast, bothKnown, builtLeast, lockLeast, lineLeast, searchLeast, secondIn, stepIn};
+ghost use Rattle.derive.specs.Inner.Search.{nothingLeft, ruled, summedLeast, gainedLeast, offered, openedLeast, bothKnown, builtLeast, lockLeast, lineLeast, searchLeast, secondIn, stepIn};
 use crate::Step;
+use crate::rules;
 
 // Above every step's number: nothing follows.
 pub const NO_STEP: u32 = 16777216;
@@ -32,40 +34,74 @@ fn least(a: u32, b: u32) -> u32
     a
 }
 
+// The step that gains head by a rule from entry first, where the rule is switched on.
+fn by_rule(rules: u8, head: u8, rule: u8, first: u8) -> u32
+    requires { ⌜ (1 ≤ rule) × (rule ≤ 8) ⌝ }
+    ensures { λ r. ⌜ r ≡ ruled (switches rules) head rule first ⌝ }
+{
+    if rules::is_on(rules, rule) {
+        return number(head, rule, first);
+    }
+    NO_STEP
+}
+
+// Entry i as a sum of known terms, which it is when nothing remains of it.
+fn summed_up(rules: u8, i: u8, remainders: &[[u64; 4]; 256]) -> u32
+    ensures { λ r. ⌜ r ≡ summedLeast (switches rules) i (nothingLeft (now (remainders .entry)) i) ⌝ }
+{
+    if bitset::is_empty(remainders[i as usize]) {
+        return by_rule(rules, i, 6, 0);
+    }
+    NO_STEP
+}
+
+// How entry i is gained, from known parts by a rule or as a sum of known terms: the least of both.
+fn gained(rules: u8, i: u8, rule: u8, first: u8, remainders: &[[u64; 4]; 256]) -> u32
+    requires { ⌜ (1 ≤ rule) × (rule ≤ 8) ⌝ }
+    ensures { λ r. ⌜ r ≡ gainedLeast (switches rules) i rule first (nothingLeft (now (remainders .entry)) i) ⌝ }
+{
+    least(
+        by_rule(rules, i, rule, first),
+        summed_up(rules, i, remainders),
+    )
+}
+
 // The step that gains head by a rule from entry i, unless head is known.
-fn offer(known: [u64; 4], head: u8, rule: u8, i: u8) -> u32
-    ensures { λ r. ⌜ r ≡ offered (value known) head rule i ⌝ }
+fn offer(rules: u8, known: [u64; 4], head: u8, rule: u8, i: u8) -> u32
+    requires { ⌜ (1 ≤ rule) × (rule ≤ 8) ⌝ }
+    ensures { λ r. ⌜ r ≡ offered (switches rules) (value known) head rule i ⌝ }
 {
     if bitset::member(known, head) {
         return NO_STEP;
     }
-    number(head, rule, i)
+    by_rule(rules, head, rule, i)
 }
 
 // The same where a test holds.
-fn offer_if(test: bool, known: [u64; 4], head: u8, rule: u8, i: u8) -> u32
-    ensures { λ r. ⌜ r ≡ cond test (offered (value known) head rule i) noStep ⌝ }
+fn offer_if(test: bool, rules: u8, known: [u64; 4], head: u8, rule: u8, i: u8) -> u32
+    requires { ⌜ (1 ≤ rule) × (rule ≤ 8) ⌝ }
+    ensures { λ r. ⌜ r ≡ cond test (offered (switches rules) (value known) head rule i) noStep ⌝ }
 {
     if test {
-        return offer(known, head, rule, i);
+        return offer(rules, known, head, rule, i);
     }
     NO_STEP
 }
 
 // What the known entry i gives: a pair its parts, an encryption its message where its key is known.
-fn opened(known: [u64; 4], key: u64, i: u8) -> u32
-    ensures { λ r. ⌜ r ≡ openedLeast (value known) key i ⌝ }
+fn opened(rules: u8, known: [u64; 4], key: u64, i: u8) -> u32
+    ensures { λ r. ⌜ r ≡ openedLeast (switches rules) (value known) key i ⌝ }
 {
     let kind = canonical::kind(key);
     if kind == 2 {
         return least(
-            offer(known, canonical::left(key), 1, i),
-            offer(known, canonical::right(key), 2, i),
+            offer(rules, known, canonical::left(key), 1, i),
+            offer(rules, known, canonical::right(key), 2, i),
         );
     }
     if kind == 3 {
         if bitset::member(known, canonical::right(key)) {
-            return offer(known, canonical::left(key), 3, i);
+            return offer(rules, known, canonical::left(key), 3, i);
         }
     }
     NO_STEP
@@ -81,75 +117,70 @@ fn both_known(known: [u64; 4], key: u64) -> bool
     false
 }
 
-// How the unknown entry i is gained: by pairing, by encrypting, or as a sum of known terms, which is when nothing remains of it.
-fn built(known: [u64; 4], key: u64, i: u8, summed: bool) -> u32
-    ensures { λ r. ⌜ r ≡ builtLeast (value known) key i summed ⌝ }
+// How the unknown entry i is gained: from its parts by pairing or by encrypting, or as a sum of known terms, which is when nothing remains of it.
+fn built(rules: u8, known: [u64; 4], key: u64, i: u8, remainders: &[[u64; 4]; 256]) -> u32
+    ensures { λ r. ⌜ r ≡ builtLeast (switches rules) (value known) key i (nothingLeft (now (remainders .entry)) i) ⌝ }
 {
     let kind = canonical::kind(key);
     if kind == 2 {
         if both_known(known, key) {
-            return number(i, 4, canonical::left(key));
+            return gained(rules, i, 4, canonical::left(key), remainders);
         }
     }
     if kind == 3 {
         if both_known(known, key) {
-            return number(i, 5, canonical::left(key));
+            return gained(rules, i, 5, canonical::left(key), remainders);
         }
     }
-    if summed {
-        return number(i, 6, 0);
-    }
-    NO_STEP
+    summed_up(rules, i, remainders)
 }
 
-// What a lock offers, entry i: its message where the opposite half of its key is known, if it is known itself; else how it is gained, as a sum or by
-// locking.
-fn of_lock(known: [u64; 4], key: u64, i: u8, summed: bool) -> u32
-    ensures { λ r. ⌜ r ≡ lockLeast (value known) key i summed ⌝ }
+// What a lock offers, entry i: its message where the opposite half of its key is known, if it is known itself; else how it is gained, by locking or as
+// a sum.
+fn of_lock(rules: u8, known: [u64; 4], key: u64, i: u8, remainders: &[[u64; 4]; 256]) -> u32
+    ensures { λ r. ⌜ r ≡ lockLeast (switches rules) (value known) key i (nothingLeft (now (remainders .entry)) i) ⌝ }
 {
     if bitset::member(known, i) {
         let open = bitset::has(known, canonical::opener(key));
-        return offer_if(open, known, canonical::left(key), 7, i);
-    }
-    if summed {
-        return number(i, 6, 0);
+        return offer_if(open, rules, known, canonical::left(key), 7, i);
     }
     if both_known(known, key) {
-        return number(i, 8, canonical::left(key));
+        return gained(rules, i, 8, canonical::left(key), remainders);
     }
-    NO_STEP
+    summed_up(rules, i, remainders)
 }
 
 // The least step that entry i offers.
-fn offered_by(known: [u64; 4], key: u64, i: u8, summed: bool) -> u32
-    ensures { λ r. ⌜ r ≡ lineLeast (value known) key i summed ⌝ }
+fn offered_by(rules: u8, known: [u64; 4], key: u64, i: u8, remainders: &[[u64; 4]; 256]) -> u32
+    ensures { λ r. ⌜ r ≡ lineLeast (switches rules) (value known) key i (nothingLeft (now (remainders .entry)) i) ⌝ }
 {
     if canonical::kind(key) == 7 {
-        return of_lock(known, key, i, summed);
+        return of_lock(rules, known, key, i, remainders);
     }
     if bitset::member(known, i) {
-        return opened(known, key, i);
+        return opened(rules, known, key, i);
     }
-    built(known, key, i, summed)
+    built(rules, known, key, i, remainders)
 }
 
-// The number of the next step over the first n lines of the tables, or NO_STEP.
+// The number of the next step over the first n lines of the tables by the rules switched on, or NO_STEP.
 pub fn next(
     keys: &[u64; 256],
     reps: &[u8; 256],
     n: usize,
     known: [u64; 4],
     remainders: &[[u64; 4]; 256],
+    rules: u8,
 ) -> u32
     requires { ⌜ n ≤ 256 ⌝ }
-    ensures { λ r. ⌜ r ≡ searchLeast (value known) (now (keys .entry)) (now (reps .entry)) (now (remainders .entry)) n ⌝ }
+    ensures { λ r. ⌜ r ≡ searchLeast (switches rules) (value known) (now (keys .entry)) (now (reps .entry)) (now (remainders .entry)) n ⌝ }
 {
     let mut best = NO_STEP;
     let mut i: usize = 0;
     while i < n {
         let e = i as u8;
         if reps[i] == e {
-            let x = offered_by(known, keys[i], e, bitset::is_empty(remainders[i]));
+            let x = offered_by(rules, known, keys[i], e, remainders);
             let b = least(best, x);
             best = b;
         }

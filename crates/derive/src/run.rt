@@ -4,6 +4,7 @@ ghost use mathlib.Core.List.{[], _++_};
 ghost use Prim.Native.Nat.{ℕ, _*_, _≤_, _/_, _%_};
 ghost use lib.ListN.{length, getD, drop};
 ghost use Rattle.bitset.specs.Words.{value};
+ghost use Rattle.deduction.specs.Setting.{switches};
 ghost use Rattle.deduction.specs.Elimination.{learnAs};
 ghost use Rattle.knowledge.specs.Inner.Rows.{rowsOf, SameOutside, Remainders};
 ghost use Rattle.knowledge.specs.Inner.State.{stateOf, Room};
@@ -67,7 +68,7 @@ fn make(
     knowledge::gain(known, rows, len, remainders, n, head, sets[head as usize])
 }
 
-// The run over a good sheet from a state, with its steps written from byte `front` of out on.
+// The run over a good sheet from a state by the rules switched on, with its steps written from byte `front` of out on.
 pub fn run(
     s: &[u8],
     keys: &[u64; 256],
@@ -78,11 +79,12 @@ pub fn run(
     len: usize,
     remainders: &mut [[u64; 4]; 256],
     budget: u16,
+    rules: u8,
     front: usize,
     out: &mut [u8],
 ) -> Ended
     requires { ⌜ Ready (now s) (now keys) (now sets) (now reps) known (now rows) len (now remainders) budget front (now out) ⌝ }
-    ensures { λ r. ⌜ Ran (now (s .entry)) known (now (rows .entry)) len (now (remainders .entry)) budget front (now (out .entry)) r (now (rows .exit)) (now (remainders .exit)) (now (out .exit)) ⌝ }
+    ensures { λ r. ⌜ Ran (switches rules) (now (s .entry)) known (now (rows .entry)) len (now (remainders .entry)) budget front (now (out .entry)) r (now (rows .exit)) (now (remainders .exit)) (now (out .exit)) ⌝ }
 {
     let n = sheet::count(s) as usize;
     let goal = sheet::goal(s) as u8;
@@ -94,7 +96,7 @@ pub fn run(
         if bitset::member(have, head) {
             return end_as(Verdict::Derivable, made, have, used);
         }
-        let x = next::next(keys, reps, n, have, remainders);
+        let x = next::next(keys, reps, n, have, remainders, rules);
         if x == next::NO_STEP {
             return end_as(Verdict::Underivable, made, have, used);
         }

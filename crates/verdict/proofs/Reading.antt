@@ -11,10 +11,11 @@ use native.Mathlib.Omega.{arith}
 use lib.ListN.{length}
 use Rattle.bitset.specs.Set.{member}
 use Rattle.deduction.specs.Term.{Term}
+use Rattle.deduction.specs.Setting.{Setting}
 use Rattle.deduction.specs.Derivation.{Derivable, begin}
 use Rattle.deduction.specs.Entry.{Atom, termAt}
 use Rattle.deduction.specs.Standard.{StandardSet, sumOfSet}
-use Rattle.deduction.specs.Step.{Step, Follows}
+use Rattle.deduction.specs.Step.{Step, FollowsIn}
 use Rattle.deduction.specs.Course.{Verdict, derivable, underivable, exhausted, Course}
 use Rattle.deduction.specs.Missing.{Missing}
 use Rattle.deduction.proofs.Steps.{replay-derivable, sound-heads, trace-derivable}
@@ -36,10 +37,10 @@ use Rattle.verdict.proofs.Laws.Demands.{start-is-heads}
 use Rattle.verdict.proofs.Unique.{steps-count}
 
 -- what passes the replay is derivable
-pub passes-derivable : (s : List ℕ) (cut k : ℕ) (out : List ℕ) → Passes s cut k out → Derivable (startTerms s cut) (goalTerm s)
-passes-derivable s cut k out (end, r, h) = replay-derivable (termAt (entryAt s)) (countOf s) r (goalTerm s) h
+pub passes-derivable : (on : Setting) (s : List ℕ) (cut k : ℕ) (out : List ℕ) → Passes on s cut k out → Derivable on (startTerms s cut) (goalTerm s)
+passes-derivable on s cut k out (end, r, h) = replay-derivable (termAt (entryAt s)) (countOf s) r (goalTerm s) h
 
-module _ {s : List ℕ} {cut budget : ℕ} {old out : List ℕ} {answer : ℕ} (ok : refusal s ≡ 0) (m : Meets s cut budget old out answer) where
+module _ {on : Setting} {s : List ℕ} {cut budget : ℕ} {old out : List ℕ} {answer : ℕ} (ok : refusal s ≡ 0) (m : Meets on s cut budget old out answer) where
   -- the number names the verdict
   at-most : m .count ≤ 256
   at-most = omega (arith, m .few, good s ok .few)
@@ -47,7 +48,7 @@ module _ {s : List ℕ} {cut budget : ℕ} {old out : List ℕ} {answer : ℕ} (
   named : (v : Verdict) → m .verdict ≡ v → answer ≡ verdictCode v + m .count
   named v p = m .coded ∙ ap (λ (w : Verdict). verdictCode w + m .count) p
 
-  is-reached : answer < 2000 → m .verdict ≡ derivable
+  pub is-reached : answer < 2000 → m .verdict ≡ derivable
   is-reached h = go (m .verdict) refl
     where
       go : (v : Verdict) → m .verdict ≡ v → m .verdict ≡ derivable
@@ -55,7 +56,7 @@ module _ {s : List ℕ} {cut budget : ℕ} {old out : List ℕ} {answer : ℕ} (
       go underivable p = absurd (omega (arith, named underivable p))
       go exhausted p = absurd (omega (arith, named exhausted p))
 
-  is-out : 2000 ≤ answer → answer < 3000 → m .verdict ≡ underivable
+  pub is-out : 2000 ≤ answer → answer < 3000 → m .verdict ≡ underivable
   is-out l h = go (m .verdict) refl
     where
       go : (v : Verdict) → m .verdict ≡ v → m .verdict ≡ underivable
@@ -72,56 +73,56 @@ module _ {s : List ℕ} {cut budget : ℕ} {old out : List ℕ} {answer : ℕ} (
       go exhausted p = p
 
   -- for every budget
-  pub reached-derivable : answer < 2000 → Derivable (startTerms s cut) (goalTerm s)
-  reached-derivable h = passes-derivable s cut (m .count) out (m .passes (is-reached h))
+  pub reached-derivable : answer < 2000 → Derivable on (startTerms s cut) (goalTerm s)
+  reached-derivable h = passes-derivable on s cut (m .count) out (m .passes (is-reached h))
 
-  pub out-underivable : 2000 ≤ answer → answer < 3000 → ¬ Derivable (startTerms s cut) (goalTerm s)
+  pub out-underivable : 2000 ≤ answer → answer < 3000 → ¬ Derivable on (startTerms s cut) (goalTerm s)
   out-underivable l h = m .out-of-reach (is-out l h)
 
-  pub stopped-used-up : 3000 ≤ answer → (answer ≡ 3000 + budget) × ((r : Step) × Follows (termAt (entryAt s)) (countOf s) (gainedHeads s cut (m .count) out) r)
+  pub stopped-used-up : 3000 ≤ answer → (answer ≡ 3000 + budget) × ((r : Step) × FollowsIn on (termAt (entryAt s)) (countOf s) (gainedHeads s cut (m .count) out) r)
   stopped-used-up l =
       let (q, u, f) = course-stopped (m .course) (is-stopped l) in
       (named exhausted (is-stopped l) ∙ ap (λ (k : ℕ). 3000 + k) (sym (steps-count out (m .count)) ∙ q), f)
 
-  -- document 02, E5: "what the stranger still lacks". At out of reach, of the goal the sum of the remainder's terms is missing: it can't be derived
-  -- either, with it the goal can, and none of its entries is gained
-  module _ (l : 2000 ≤ answer) (h : answer < 3000) where
+  -- document 02, E5: "what the stranger still lacks". At out of reach, where sum is on, of the goal the sum of the remainder's terms is missing: it
+  -- can't be derived either, with it the goal can, and none of its entries is gained
+  module _ (w : on 6 ≡ true) (l : 2000 ≤ answer) (h : answer < 3000) where
     abbrev lacked : Term
     lacked = sumOfSet (termAt (entryAt s)) (countOf s) (remainderIn out)
 
     pub out-missing : Missing (entryAt s) (countOf s) (gainedHeads s cut (m .count) out) (goalOf s) (usedIn out) (remainderIn out) × (¬ (remainderIn out ≡ 0))
-    out-missing = (m .missing (is-out l h), m .lacking (is-out l h))
+    out-missing = (m .missing w (is-out l h), m .lacking w (is-out l h))
 
     pub missing-ungained : (e : ℕ) → member (remainderIn out) e ≡ true → ¬ (member (gainedIn out) e ≡ true)
     missing-ungained e i g = remainder-unknown (entryAt s) (countOf s) (good s ok .downward) (out-missing .0) e i (m .known e .0 g)
 
     -- what is used was gained
-    used-derivable : cut ≤ traceLength s → (j : ℕ) → member (usedIn out) j ≡ true → Derivable (startTerms s cut) (termAt (entryAt s) j)
+    used-derivable : cut ≤ traceLength s → (j : ℕ) → member (usedIn out) j ≡ true → Derivable on (startTerms s cut) (termAt (entryAt s) j)
     used-derivable within j i =
         trace-derivable (entryAt s) (countOf s) (good s ok .downward) (startEntries s cut) (start-below s ok cut within) (termAt (entryAt s) j) .1
-        (sound-heads (entryAt s) (countOf s) (good s ok .downward) (startHeads s cut) (stepsIn out (m .count)) (start-is-heads s cut budget ok within) (course-made (m .course)) j
+        (sound-heads on (entryAt s) (countOf s) (good s ok .downward) (startHeads s cut) (stepsIn out (m .count)) (start-is-heads on s cut budget ok within) (course-made (m .course)) j
         (drawn-known (termAt (entryAt s)) (countOf s) (gainedHeads s cut (m .count) out) j (out-missing .0 .drawn j i)))
 
-    pub missing-underivable : cut ≤ traceLength s → ¬ Derivable (startTerms s cut) lacked
+    pub missing-underivable : cut ≤ traceLength s → ¬ Derivable on (startTerms s cut) lacked
     missing-underivable within d =
-        out-underivable l h (missing-enough (entryAt s) (countOf s) (good s ok .downward) (out-missing .0) (startTerms s cut) (used-derivable within) d)
+        out-underivable l h (missing-enough (entryAt s) (countOf s) (good s ok .downward) (out-missing .0) w (startTerms s cut) (used-derivable within) d)
 
-    pub missing-suffices : cut ≤ traceLength s → Derivable (lacked ∷ startTerms s cut) (goalTerm s)
+    pub missing-suffices : cut ≤ traceLength s → Derivable on (lacked ∷ startTerms s cut) (goalTerm s)
     missing-suffices within =
-        missing-enough (entryAt s) (countOf s) (good s ok .downward) (out-missing .0) (lacked ∷ startTerms s cut)
+        missing-enough (entryAt s) (countOf s) (good s ok .downward) (out-missing .0) w (lacked ∷ startTerms s cut)
         (λ j i. derivable-kept (held-older lacked) (termAt (entryAt s) j) (used-derivable within j i))
         (lacked ∷ startTerms s cut, begin, held-newest lacked)
 
     -- no entry of it is the highest-numbered one in any derivable term that is a sum of standard entries, through terms of any size
-    pub missing-highest : cut ≤ traceLength s → (w j : ℕ) → StandardSet (entryAt s) (countOf s) w
-        → Derivable (startTerms s cut) (sumOfSet (termAt (entryAt s)) (countOf s) w) → member w j ≡ true → ((k : ℕ) → member w k ≡ true → k ≤ j)
+    pub missing-highest : cut ≤ traceLength s → (u j : ℕ) → StandardSet (entryAt s) (countOf s) u
+        → Derivable on (startTerms s cut) (sumOfSet (termAt (entryAt s)) (countOf s) u) → member u j ≡ true → ((k : ℕ) → member u k ≡ true → k ≤ j)
         → ¬ (member (remainderIn out) j ≡ true)
-    missing-highest within w j standards d =
+    missing-highest within u j standards d =
         let g = good s ok in
-        let heads = start-is-heads s cut budget ok within in
+        let heads = start-is-heads on s cut budget ok within in
         missing-widest (entryAt s) (countOf s) (g .downward) (gainedHeads s cut (m .count) out) (course-heads (entryAt s) (countOf s) (g .downward) (goalOf s) heads (m .course)) (goalOf s) (g .goal)
-        (startHeads s cut) (λ i c. Memᴰ·append-left _ c) (course-stuck (m .course) (is-out l h) .1) (out-missing .0) w j standards
-        (trace-derivable (entryAt s) (countOf s) (g .downward) (startEntries s cut) (start-below s ok cut within) (sumOfSet (termAt (entryAt s)) (countOf s) w) .0 d)
+        on (startHeads s cut) (λ i c. Memᴰ·append-left _ c) (course-stuck (m .course) (is-out l h) .1) (out-missing .0) u j standards
+        (trace-derivable (entryAt s) (countOf s) (g .downward) (startEntries s cut) (start-below s ok cut within) (sumOfSet (termAt (entryAt s)) (countOf s) u) .0 d)
 
   -- "They are zero for the other verdicts"
   pub reached-nothing : answer < 2000 → (usedIn out ≡ 0) × (remainderIn out ≡ 0)
@@ -134,7 +135,7 @@ module _ {s : List ℕ} {cut budget : ℕ} {old out : List ℕ} {answer : ℕ} (
   pub public-reached : (a : ℕ) → entryAt s (goalOf s) ≡ Atom a → a < 256 → cut ≤ traceLength s → answer ≡ 1000
   public-reached a p l within =
       let g = good s ok in
-      let heads = start-is-heads s cut budget ok within in
+      let heads = start-is-heads on s cut budget ok within in
       let gained = head-gained (entryAt s) (countOf s) (g .downward) (goalOf s) (g .goal) (startHeads s cut) heads (public-start s ok cut (goalOf s) a (g .goal) p l) in
       let (steps, v) = course-unique (entryAt s) (countOf s) (g .downward) (goalOf s) heads (m .course) (Course.reached gained) in
       named derivable v ∙ ap (λ (k : ℕ). 1000 + k) (sym (steps-count out (m .count)) ∙ ap length steps)
@@ -149,11 +150,11 @@ module _ {s : List ℕ} {cut budget : ℕ} {old out : List ℕ} {answer : ℕ} (
 
   -- with a budget of at least the number of entries the number decides
   module _ (enough : countOf s ≤ budget) where
-    pub out-exact : ((2000 ≤ answer) × (answer < 3000)) ↔ (¬ Derivable (startTerms s cut) (goalTerm s))
+    pub out-exact : ((2000 ≤ answer) × (answer < 3000)) ↔ (¬ Derivable on (startTerms s cut) (goalTerm s))
     out-exact = (
       λ (l, h). m .exact enough .0 (is-out l h),
       λ n. let q = named underivable (m .exact enough .1 n) in (omega arith, omega (arith, at-most)),
     )
 
-    pub reached-exact : (answer < 2000) ↔ Derivable (startTerms s cut) (goalTerm s)
+    pub reached-exact : (answer < 2000) ↔ Derivable on (startTerms s cut) (goalTerm s)
     reached-exact = (reached-derivable, λ d. let q = named derivable (m .otherwise enough (λ p. m .exact enough .0 p d)) in omega (arith, at-most))

@@ -13,6 +13,7 @@ use lib.ListN.{length, drop, length-append}
 use Rattle.bitset.specs.Set.{member}
 use Rattle.bitset.proofs.Laws.Member.{same-members}
 use Rattle.bitset.proofs.Laws.Words.{Below}
+use Rattle.deduction.specs.Setting.{Setting}
 use Rattle.deduction.specs.Step.{Step}
 use Rattle.deduction.specs.Run.{Outcome, knowledge}
 use Rattle.deduction.specs.Missing.{Missing}
@@ -47,31 +48,31 @@ sets-equal a b f g = same-members a b (λ e. go (member a e) (member b e) (λ p.
     go false true p q = q refl
     go false false p q = refl
 
-module _ (s : List ℕ) (cut budget : ℕ) (ok : refusal s ≡ 0) (within : cut ≤ traceLength s) where
+module _ (on : Setting) (s : List ℕ) (cut budget : ℕ) (ok : refusal s ≡ 0) (within : cut ≤ traceLength s) where
   -- what meets the demands is what the run makes
-  module _ {old out : List ℕ} {answer : ℕ} (m : Meets s cut budget old out answer) where
-    pub as-run : (stepsIn out (m .count) ≡ outcomeOf s cut budget .steps) × (m .verdict ≡ outcomeOf s cut budget .verdict)
+  module _ {old out : List ℕ} {answer : ℕ} (m : Meets on s cut budget old out answer) where
+    pub as-run : (stepsIn out (m .count) ≡ outcomeOf on s cut budget .steps) × (m .verdict ≡ outcomeOf on s cut budget .verdict)
     as-run =
-        course-unique (entryAt s) (countOf s) (good s ok .downward) (goalOf s) (start-is-heads s cut budget ok within) (m .course)
-        (run-is-course s cut budget ok within)
+        course-unique (entryAt s) (countOf s) (good s ok .downward) (goalOf s) (start-is-heads on s cut budget ok within) (m .course)
+        (run-is-course on s cut budget ok within)
 
-    count-run : m .count ≡ length (outcomeOf s cut budget .steps)
+    count-run : m .count ≡ length (outcomeOf on s cut budget .steps)
     count-run = sym (steps-count out (m .count)) ∙ ap length (as-run .0)
 
-    pub answer-run : answer ≡ verdictCode (outcomeOf s cut budget .verdict) + length (outcomeOf s cut budget .steps)
+    pub answer-run : answer ≡ verdictCode (outcomeOf on s cut budget .verdict) + length (outcomeOf on s cut budget .steps)
     answer-run = m .coded ∙ ap₂ (λ v k. verdictCode v + k) (as-run .1) count-run
 
-    pub known-run : (e : ℕ) → (member (gainedIn out) e ≡ true) ↔ List·Memᴰ e (startHeads s cut ++ map (λ (r : Step). r .head) (outcomeOf s cut budget .steps))
+    pub known-run : (e : ℕ) → (member (gainedIn out) e ≡ true) ↔ List·Memᴰ e (startHeads s cut ++ map (λ (r : Step). r .head) (outcomeOf on s cut budget .steps))
     known-run = subst (λ (ss : List Step). (e : ℕ) → (member (gainedIn out) e ≡ true) ↔ List·Memᴰ e (startHeads s cut ++ map (λ (r : Step). r .head) ss)) (as-run .0) (m .known)
 
-    pub missing-run : (usedIn out ≡ missingOf s cut budget .used) × (remainderIn out ≡ missingOf s cut budget .remainder)
+    pub missing-run : (usedIn out ≡ missingOf on s cut budget .used) × (remainderIn out ≡ missingOf on s cut budget .remainder)
     missing-run =
-        missing-only s cut budget ok within (as-run .1)
-        (λ p. subst (λ (ss : List Step). Missing (entryAt s) (countOf s) (startHeads s cut ++ map (λ (r : Step). r .head) ss) (goalOf s) (usedIn out) (remainderIn out)) (as-run .0) (m .missing p)) (m .others)
+        missing-only on s cut budget ok within (as-run .1)
+        (λ w p. subst (λ (ss : List Step). Missing (entryAt s) (countOf s) (startHeads s cut ++ map (λ (r : Step). r .head) ss) (goalOf s) (usedIn out) (remainderIn out)) (as-run .0) (m .missing w p)) (m .own) (m .others)
 
-  module _ {old old′ out out′ : List ℕ} {answer answer′ : ℕ} (m : Meets s cut budget old out answer) (m′ : Meets s cut budget old′ out′ answer′) where
+  module _ {old old′ out out′ : List ℕ} {answer answer′ : ℕ} (m : Meets on s cut budget old out answer) (m′ : Meets on s cut budget old′ out′ answer′) where
     one-course : (stepsIn out (m .count) ≡ stepsIn out′ (m′ .count)) × (m .verdict ≡ m′ .verdict)
-    one-course = course-unique (entryAt s) (countOf s) (good s ok .downward) (goalOf s) (start-is-heads s cut budget ok within) (m .course) (m′ .course)
+    one-course = course-unique (entryAt s) (countOf s) (good s ok .downward) (goalOf s) (start-is-heads on s cut budget ok within) (m .course) (m′ .course)
 
     pub one-count : m .count ≡ m′ .count
     one-count = sym (steps-count out (m .count)) ∙ ap length (one-course .0) ∙ steps-count out′ (m′ .count)
@@ -86,7 +87,7 @@ module _ (s : List ℕ) (cut budget : ℕ) (ok : refusal s ≡ 0) (within : cut 
     )
 
 -- a call that isn't refused, with a buffer of bytes: what was written is what is read back
-module _ (s : List ℕ) (cut budget : ℕ) (old : List ℕ) (ok : refusalOf s cut budget (length old) ≡ 0) where
+module _ (on : Setting) (s : List ℕ) (cut budget : ℕ) (old : List ℕ) (ok : refusalOf s cut budget (length old) ≡ 0) where
   sheet-ok : refusal s ≡ 0
   sheet-ok = ok-sheet s cut budget (length old) ok
 
@@ -94,10 +95,10 @@ module _ (s : List ℕ) (cut budget : ℕ) (old : List ℕ) (ok : refusalOf s cu
   cut-ok = ok-cut s cut budget (length old) ok
 
   abbrev o : Outcome
-  o = outcomeOf s cut budget
+  o = outcomeOf on s cut budget
 
   module _ (out : List ℕ) (bytes : Below 8 out) (size : length out ≡ length old) where
-    written : {answer : ℕ} (m : Meets s cut budget old out answer)
+    written : {answer : ℕ} (m : Meets on s cut budget old out answer)
         → out ≡ frontBytes (gainedIn out) (usedIn out) (remainderIn out) ++ (stepsBytes (stepsIn out (m .count)) ++ drop (front + 40 * m .count) old)
     written m =
         let b : length (stepsIn out (m .count)) ≤ budget = course-budget (m .course) in
@@ -105,31 +106,31 @@ module _ (s : List ℕ) (cut budget : ℕ) (old : List ℕ) (ok : refusalOf s cu
         buffer-back out (m .count) room bytes ∙ ap (λ (rest : List ℕ). frontBytes (gainedIn out) (usedIn out) (remainderIn out) ++ (stepsBytes (stepsIn out (m .count)) ++ rest)) (m .kept)
 
     -- the demands on such a call give the two equations
-    meets-equations : (answer : ℕ) → Meets s cut budget old out answer → (answer ≡ answerOf s cut budget (length old)) × (out ≡ bufferOf s cut budget old)
+    meets-equations : (answer : ℕ) → Meets on s cut budget old out answer → (answer ≡ answerOf on s cut budget (length old)) × (out ≡ bufferOf on s cut budget old)
     unfolding frontOf
     meets-equations answer m =
-        let ss = as-run s cut budget sheet-ok cut-ok m .0 in
-        let k = count-run s cut budget sheet-ok cut-ok m in
-        let u : gainedIn out ≡ knowledge (entryAt s) (o .learnt) .known = meets-unique s cut budget sheet-ok cut-ok m (accepted-meets s cut budget old ok) .2 ∙ accepted-known s cut budget old ok in
-        let (used, remainder) = missing-run s cut budget sheet-ok cut-ok m in (
-          answer-run s cut budget sheet-ok cut-ok m ∙ sym (accepted-answer s cut budget old ok),
-          written m ∙ (λ i. frontBytes (u i) (used i) (remainder i) ++ (stepsBytes (ss i) ++ drop (front + 40 * k i) old)) ∙ sym (accepted-buffer s cut budget old ok),
+        let ss = as-run on s cut budget sheet-ok cut-ok m .0 in
+        let k = count-run on s cut budget sheet-ok cut-ok m in
+        let u : gainedIn out ≡ knowledge (entryAt s) (o .learnt) .known = meets-unique on s cut budget sheet-ok cut-ok m (accepted-meets on s cut budget old ok) .2 ∙ accepted-known on s cut budget old ok in
+        let (used, remainder) = missing-run on s cut budget sheet-ok cut-ok m in (
+          answer-run on s cut budget sheet-ok cut-ok m ∙ sym (accepted-answer on s cut budget old ok),
+          written m ∙ (λ i. frontBytes (u i) (used i) (remainder i) ++ (stepsBytes (ss i) ++ drop (front + 40 * k i) old)) ∙ sym (accepted-buffer on s cut budget old ok),
         )
 
 -- refused or not: an answer and a buffer of bytes are as demanded exactly when they are those of the equations
-pub demands-equations : (s : List ℕ) (cut budget : ℕ) (old out : List ℕ) (answer : ℕ) → Below 8 out → length out ≡ length old
-    → Demanded s cut budget old out answer ↔ ((answer ≡ answerOf s cut budget (length old)) × (out ≡ bufferOf s cut budget old))
-demands-equations s cut budget old out answer bytes size = (
+pub demands-equations : (on : Setting) (s : List ℕ) (cut budget : ℕ) (old out : List ℕ) (answer : ℕ) → Below 8 out → length out ≡ length old
+    → Demanded on s cut budget old out answer ↔ ((answer ≡ answerOf on s cut budget (length old)) × (out ≡ bufferOf on s cut budget old))
+demands-equations on s cut budget old out answer bytes size = (
   λ d.
-      by-cases (ℕ-discrete (refusalOf s cut budget (length old)) 0) (λ ok. meets-equations s cut budget old ok out bytes size answer (d .judged ok))
-      (λ n. (d .refused n .0 ∙ refused-answer s cut budget (length old) n, d .refused n .1 ∙ refused-buffer s cut budget old n)),
-  λ (p, q). equations-demand s cut budget old out answer p q,
+      by-cases (ℕ-discrete (refusalOf s cut budget (length old)) 0) (λ ok. meets-equations on s cut budget old ok out bytes size answer (d .judged ok))
+      (λ n. (d .refused n .0 ∙ refused-answer on s cut budget (length old) n, d .refused n .1 ∙ refused-buffer on s cut budget old n)),
+  λ (p, q). equations-demand on s cut budget old out answer p q,
 )
 
 -- so two answers and buffers of bytes that are as demanded after one buffer are equal, byte for byte
-pub demands-unique : (s : List ℕ) (cut budget : ℕ) (old out out′ : List ℕ) (answer answer′ : ℕ) → Below 8 out → Below 8 out′ → length out ≡ length old → length out′ ≡ length old
-    → Demanded s cut budget old out answer → Demanded s cut budget old out′ answer′ → (answer ≡ answer′) × (out ≡ out′)
-demands-unique s cut budget old out out′ answer answer′ b b′ l l′ d d′ =
-    let (p, q) = demands-equations s cut budget old out answer b l .0 d in
-    let (p′, q′) = demands-equations s cut budget old out′ answer′ b′ l′ .0 d′ in
+pub demands-unique : (on : Setting) (s : List ℕ) (cut budget : ℕ) (old out out′ : List ℕ) (answer answer′ : ℕ) → Below 8 out → Below 8 out′ → length out ≡ length old → length out′ ≡ length old
+    → Demanded on s cut budget old out answer → Demanded on s cut budget old out′ answer′ → (answer ≡ answer′) × (out ≡ out′)
+demands-unique on s cut budget old out out′ answer answer′ b b′ l l′ d d′ =
+    let (p, q) = demands-equations on s cut budget old out answer b l .0 d in
+    let (p′, q′) = demands-equations on s cut budget old out′ answer′ b′ l′ .0 d′ in
     (p ∙ sym p′, q ∙ sym q′)

@@ -6,6 +6,7 @@ use Prim.Native.Nat.{ℕ, _+_, _*_}
 use mathlib.Core.Path.{_≡_}
 use mathlib.Core.List.{List, [], _∷_}
 use lib.Count.{ones}
+use Rattle.deduction.specs.Setting.{Setting}
 use Rattle.deduction.specs.Run.{knowledge}
 use Rattle.dag.specs.Record.{entryAt}
 use Rattle.deduction.specs.Step.{Step, step, unused}
@@ -181,15 +182,15 @@ rows =
     ∷ case sheetHigh 1 256 2000 1 0 2 []
     ∷ []
 
--- the definitions yield the row
-abbrev pub Yields : Case → Type 0
-Yields c =
-    (answerOf (c .sheet) (c .cut) (c .budget) (front + 40 * c .budget) ≡ c .answer)
-    × (ones (knowledge (entryAt (c .sheet)) (outcomeOf (c .sheet) (c .cut) (c .budget) .learnt) .known) ≡ c .known)
-    × (missingOf (c .sheet) (c .cut) (c .budget) .used ≡ c .used)
-    × (missingOf (c .sheet) (c .cut) (c .budget) .remainder ≡ c .remainder)
-    × (outcomeOf (c .sheet) (c .cut) (c .budget) .steps ≡ c .steps)
+-- with these rules switched on, the definitions yield the row
+abbrev pub Yields : Setting → Case → Type 0
+Yields on c =
+    (answerOf on (c .sheet) (c .cut) (c .budget) (front + 40 * c .budget) ≡ c .answer)
+    × (ones (knowledge (entryAt (c .sheet)) (outcomeOf on (c .sheet) (c .cut) (c .budget) .learnt) .known) ≡ c .known)
+    × (missingOf on (c .sheet) (c .cut) (c .budget) .used ≡ c .used)
+    × (missingOf on (c .sheet) (c .cut) (c .budget) .remainder ≡ c .remainder)
+    × (outcomeOf on (c .sheet) (c .cut) (c .budget) .steps ≡ c .steps)
 
-abbrev pub AllYield : List Case → Type 0
-AllYield [] = Unit {0}
-AllYield (c ∷ cs) = Yields c × AllYield cs
+abbrev pub AllYield : Setting → List Case → Type 0
+AllYield on [] = Unit {0}
+AllYield on (c ∷ cs) = Yields on c × AllYield on cs

@@ -4,13 +4,14 @@ ghost use mathlib.Core.List.{_++_};
 ghost use Prim.Native.Nat.{_≤_};
 ghost use lib.ListN.{length, drop};
 ghost use Rattle.bitset.specs.Words.{value};
-ghost use Rattle.deduction.specs.Elimination.{reduce};
+ghost use Rattle.deduction.specs.Setting.{switches};
 ghost use Rattle.knowledge.specs.Inner.Rows.{rowsOf};
 ghost use Rattle.knowledge.specs.Inner.State.{reducedOf};
 ghost use Rattle.derive.specs.Inner.Ran.{verdictOf};
 ghost use Rattle.verdict.specs.Buffer.{front};
-ghost use Rattle.verdict.specs.Answer.{missingAs, frontBytes};
+ghost use Rattle.verdict.specs.Answer.{missingAs, missingBy, frontBytes};
 ghost use Rattle.verdict.specs.Inner.Decide.{isUnderivable};
+use derive::rules;
 use derive::run::Verdict;
 use knowledge::Reduced;
 
@@ -28,13 +29,33 @@ fn is_underivable(verdict: Verdict) -> bool
     }
 }
 
-// What is missing of the goal, whose set is goal: the sum test hands it back, at out of reach. Nothing is missing at the other verdicts.
-pub fn missing(verdict: Verdict, rows: &[u64; 2048], len: usize, goal: [u64; 4]) -> Reduced
+// What is missing of an entry with this set: the sum test hands it back. Without the sum rule it is the set itself.
+fn missing_by(rules: u8, rows: &[u64; 2048], len: usize, set: [u64; 4]) -> Reduced
     requires { ⌜ (length (now rows) ≡ 2048) × (len ≤ 256) ⌝ }
-    ensures { λ r. ⌜ reducedOf (r .remainder) (r .used) ≡ missingAs (verdictOf verdict) (reduce (rowsOf (now (rows .entry)) len) (value goal)) ⌝ }
+    ensures { λ r. ⌜ reducedOf (r .remainder) (r .used) ≡ missingBy (switches rules) (rowsOf (now (rows .entry)) len) (value set) ⌝ }
+{
+    if rules::is_on(rules, 6) {
+        return knowledge::reduce(rows, len, set);
+    }
+    Reduced {
+        remainder: set,
+        used: bitset::empty(),
+    }
+}
+
+// What is missing of the goal, whose set is goal, at out of reach. Nothing is missing at the other verdicts.
+pub fn missing(
+    verdict: Verdict,
+    rules: u8,
+    rows: &[u64; 2048],
+    len: usize,
+    goal: [u64; 4],
+) -> Reduced
+    requires { ⌜ (length (now rows) ≡ 2048) × (len ≤ 256) ⌝ }
+    ensures { λ r. ⌜ reducedOf (r .remainder) (r .used) ≡ missingAs (verdictOf verdict) (missingBy (switches rules) (rowsOf (now (rows .entry)) len) (value goal)) ⌝ }
 {
     if is_underivable(verdict) {
-        return knowledge::reduce(rows, len, goal);
+        return missing_by(rules, rows, len, goal);
     }
     Reduced {
         remainder: bitset::empty(),

@@ -2,6 +2,7 @@
 ghost use mathlib.Core.Path.{_≡_};
 ghost use Prim.Native.Nat.{_+_, _*_, _≤_};
 ghost use lib.ListN.{length};
+ghost use Rattle.deduction.specs.Setting.{every, switches};
 ghost use Rattle.dag.specs.Sheet.{traceLength};
 ghost use Rattle.dag.specs.Refusal.{refusal};
 ghost use Rattle.dag.specs.Code.{codeOf};
@@ -13,6 +14,7 @@ ghost use Rattle.verdict.specs.Code.{numberOf, madeIn};
 ghost use Rattle.verdict.specs.Inner.Decide.{Decided};
 use dag::Refusal;
 use dag::sheet;
+use derive::rules;
 use derive::run::Ended;
 use derive::run::Verdict;
 
@@ -28,10 +30,10 @@ pub enum Answer {
     Exhausted(u16),
 }
 
-// The verdict on a good sheet, with the steps and what stands before them written to out.
-fn decide(s: &[u8], cut: u16, budget: u16, out: &mut [u8]) -> Ended
+// The verdict on a good sheet by the rules switched on, with the steps and what stands before them written to out.
+fn decide(s: &[u8], cut: u16, budget: u16, rules: u8, out: &mut [u8]) -> Ended
     requires { ⌜ (refusal (now s) ≡ 0) × (cut ≤ traceLength (now s)) × (budget ≤ 256) × (front + 40 * budget ≤ length (now out)) ⌝ }
-    ensures { λ r. ⌜ Decided (now (s .entry)) cut budget (now (out .entry)) (now (out .exit)) r ⌝ }
+    ensures { λ r. ⌜ Decided (switches rules) (now (s .entry)) cut budget (now (out .entry)) (now (out .exit)) r ⌝ }
 {
     let mut keys = [0u64; 256];
     let mut sets = [[0u64; 4]; 256];
@@ -51,25 +53,26 @@ fn decide(s: &[u8], cut: u16, budget: u16, out: &mut [u8]) -> Ended
         start.len,
         &mut remainders,
         budget,
+        rules,
         FRONT,
         out,
     );
     let verdict = ended.verdict;
     let gained = ended.known;
     let goal = sheet::goal(s) as usize;
-    let missing = front::missing(verdict, &rows, ended.len, sets[goal]);
+    let missing = front::missing(verdict, rules, &rows, ended.len, sets[goal]);
     front::write_front(gained, missing, out);
     ended
 }
 
 // The answer to a call that isn't refused.
-fn judged(s: &[u8], cut: u16, budget: u16, out: &mut [u8]) -> Answer
+fn judged(s: &[u8], cut: u16, budget: u16, rules: u8, out: &mut [u8]) -> Answer
     requires { ⌜ (refusal (now s) ≡ 0) × (cut ≤ traceLength (now s)) × (budget ≤ 256) × (front + 40 * budget ≤ length (now out)) ⌝ }
-    ensures answer { λ r. ⌜ numberOf r ≡ answerOf (now (s .entry)) cut budget (length (now (out .entry))) ⌝ }
+    ensures answer { λ r. ⌜ numberOf r ≡ answerOf (switches rules) (now (s .entry)) cut budget (length (now (out .entry))) ⌝ }
     ensures few { λ r. ⌜ madeIn r ≤ 256 ⌝ }
-    ensures bytes { λ _. ⌜ now (out .exit) ≡ bufferOf (now (s .entry)) cut budget (now (out .entry)) ⌝ }
+    ensures bytes { λ _. ⌜ now (out .exit) ≡ bufferOf (switches rules) (now (s .entry)) cut budget (now (out .entry)) ⌝ }
 {
-    let ended = decide(s, cut, budget, out);
+    let ended = decide(s, cut, budget, rules, out);
     let made = ended.made;
     let v = ended.verdict;
     match v {
@@ -99,24 +102,34 @@ fn refused(sheet: &[u8], cut: u32, budget: u32, space: usize) -> Refusal
     Refusal::Nothing
 }
 
-// The verdict call. A refusal leaves every byte of out; otherwise out gets the known set, what is missing, 40 bytes a step, and keeps its later
-// bytes. Only as many bytes as the budget needs are lent to what follows. (As it calls itself, the compiler keeps the large tables of `judged` out
-// of its frame: a refused call needs little stack.)
-pub fn verdict(sheet: &[u8], cut: u32, budget: u32, out: &mut [u8]) -> Answer
-    ensures answer { λ r. ⌜ numberOf r ≡ answerOf (now (sheet .entry)) cut budget (length (now (out .entry))) ⌝ }
+// The verdict call by the rules switched on. A refusal leaves every byte of out; otherwise out gets the known set, what is missing, 40 bytes a step,
+// and keeps its later bytes. Only as many bytes as the budget needs are lent to what follows. (As it calls itself, the compiler keeps the large tables
+// of `judged` out of its frame: a refused call needs little stack.)
+pub fn limited(sheet: &[u8], cut: u32, budget: u32, rules: u8, out: &mut [u8]) -> Answer
+    ensures answer { λ r. ⌜ numberOf r ≡ answerOf (switches rules) (now (sheet .entry)) cut budget (length (now (out .entry))) ⌝ }
     ensures few { λ r. ⌜ madeIn r ≤ 256 ⌝ }
-    ensures bytes { λ _. ⌜ now (out .exit) ≡ bufferOf (now (sheet .entry)) cut budget (now (out .entry)) ⌝ }
-    ensures demands { λ r. ⌜ Demanded (now (sheet .entry)) cut budget (now (out .entry)) (now (out .exit)) (numberOf r) ⌝ }
+    ensures bytes { λ _. ⌜ now (out .exit) ≡ bufferOf (switches rules) (now (sheet .entry)) cut budget (now (out .entry)) ⌝ }
+    ensures demands { λ r. ⌜ Demanded (switches rules) (now (sheet .entry)) cut budget (now (out .entry)) (now (out .exit)) (numberOf r) ⌝ }
 {
     let need = FRONT + 40 * (budget as usize);
     if need < out.len() {
-        return verdict(sheet, cut, budget, &mut out[..need]);
+        return limited(sheet, cut, budget, rules, &mut out[..need]);
     }
     let r = refused(sheet, cut, budget, out.len());
     if dag::code(r) != 0 {
         return Answer::Refused(r);
     }
-    judged(sheet, cut as u16, budget as u16, out)
+    judged(sheet, cut as u16, budget as u16, rules, out)
+}
+
+// The verdict call with every rule on.
+pub fn verdict(sheet: &[u8], cut: u32, budget: u32, out: &mut [u8]) -> Answer
+    ensures answer { λ r. ⌜ numberOf r ≡ answerOf every (now (sheet .entry)) cut budget (length (now (out .entry))) ⌝ }
+    ensures few { λ r. ⌜ madeIn r ≤ 256 ⌝ }
+    ensures bytes { λ _. ⌜ now (out .exit) ≡ bufferOf every (now (sheet .entry)) cut budget (now (out .entry)) ⌝ }
+    ensures demands { λ r. ⌜ Demanded every (now (sheet .entry)) cut budget (now (out .entry)) (now (out .exit)) (numberOf r) ⌝ }
+{
+    limited(sheet, cut, budget, rules::EVERY, out)
 }
 
 // The number of an answer: a refusal's, or the steps made plus 1,000, 2,000 or 3,000.
@@ -134,14 +147,30 @@ fn number(a: Answer) -> u32
 // The same for callers in C, on numbers and byte buffers.
 #[no_mangle]
 pub extern "C" fn zuwendryk_verdict(sheet: &[u8], cut: u32, budget: u32, buffer: &mut [u8]) -> u32
-    ensures answer { λ r. ⌜ r ≡ answerOf (now (sheet .entry)) cut budget (length (now (buffer .entry))) ⌝ }
-    ensures bytes { λ _. ⌜ now (buffer .exit) ≡ bufferOf (now (sheet .entry)) cut budget (now (buffer .entry)) ⌝ }
-    ensures demands { λ r. ⌜ Demanded (now (sheet .entry)) cut budget (now (buffer .entry)) (now (buffer .exit)) r ⌝ }
+    ensures answer { λ r. ⌜ r ≡ answerOf every (now (sheet .entry)) cut budget (length (now (buffer .entry))) ⌝ }
+    ensures bytes { λ _. ⌜ now (buffer .exit) ≡ bufferOf every (now (sheet .entry)) cut budget (now (buffer .entry)) ⌝ }
+    ensures demands { λ r. ⌜ Demanded every (now (sheet .entry)) cut budget (now (buffer .entry)) (now (buffer .exit)) r ⌝ }
 {
     number(verdict(sheet, cut, budget, buffer))
 }
 
-// Is this a good sheet? For callers in C: the number of the refusal, 1 to 7, or 0.
+// The same by the rules that a byte of eight switches says: the lowest bit is for rule 1, and every value is good.
+#[no_mangle]
+pub extern "C" fn zuwendryk_limited_verdict(
+    sheet: &[u8],
+    cut: u32,
+    budget: u32,
+    rules: u8,
+    buffer: &mut [u8],
+) -> u32
+    ensures answer { λ r. ⌜ r ≡ answerOf (switches rules) (now (sheet .entry)) cut budget (length (now (buffer .entry))) ⌝ }
+    ensures bytes { λ _. ⌜ now (buffer .exit) ≡ bufferOf (switches rules) (now (sheet .entry)) cut budget (now (buffer .entry)) ⌝ }
+    ensures demands { λ r. ⌜ Demanded (switches rules) (now (sheet .entry)) cut budget (now (buffer .entry)) (now (buffer .exit)) r ⌝ }
+{
+    number(limited(sheet, cut, budget, rules, buffer))
+}
+
+// Is this a good sheet? For callers in C: the number of the refusal, 1 to 7 or 12, or 0.
 #[no_mangle]
 pub extern "C" fn zuwendryk_validate(sheet: &[u8]) -> u32
     ensures { λ r. ⌜ r ≡ refusal (now (sheet .entry)) ⌝ }

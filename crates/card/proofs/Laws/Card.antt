@@ -13,6 +13,7 @@ use lib.Dec.{leb}
 use lib.ListN.{length, take, drop, length-drop}
 use Rattle.bitset.specs.Words.{setOf}
 use Rattle.bitset.proofs.Laws.Choice.{when-le}
+use Rattle.deduction.specs.Setting.{every}
 use Rattle.deduction.specs.Step.{Step}
 use Rattle.deduction.specs.Run.{Verdict, derivable, underivable, exhausted, Outcome, knowledge}
 use Rattle.dag.specs.Sheet.{numberAt, goalOf, traceLength}
@@ -70,7 +71,7 @@ steps-more b i h k =
 -- what is printed of a cut
 module _ (s : List ℕ) (cut : ℕ) (old : List ℕ) (good-sheet : refusal s ≡ 0) (within : cut ≤ traceLength s) (size : length old ≡ front + 40 * 256) where
   abbrev o : Outcome
-  o = outcomeOf s cut 256
+  o = outcomeOf every s cut 256
 
   abbrev known : ℕ
   known = ones (knowledge (entryAt s) (o .learnt) .known)
@@ -78,13 +79,13 @@ module _ (s : List ℕ) (cut : ℕ) (old : List ℕ) (good-sheet : refusal s ≡
   fine : refusalOf s cut 256 (length old) ≡ 0
   fine = sym (accepted s cut 256 (length old) good-sheet within (omega arith) (omega arith))
 
-  number : {answer : ℕ} → answer ≡ answerOf s cut 256 (length old) → (v : Verdict) → o .verdict ≡ v → answer ≡ verdictCode v + length (o .steps)
-  number p v q = p ∙ accepted-answer s cut 256 old fine ∙ ap (λ (w : Verdict). verdictCode w + length (o .steps)) q
+  number : {answer : ℕ} → answer ≡ answerOf every s cut 256 (length old) → (v : Verdict) → o .verdict ≡ v → answer ≡ verdictCode v + length (o .steps)
+  number p v q = p ∙ accepted-answer every s cut 256 old fine ∙ ap (λ (w : Verdict). verdictCode w + length (o .steps)) q
 
   pub few : length (o .steps) ≤ 256
-  few = accepted-few s cut 256 old fine
+  few = accepted-few every s cut 256 old fine
 
-  pub at-least : {answer : ℕ} → answer ≡ answerOf s cut 256 (length old) → 1000 ≤ answer
+  pub at-least : {answer : ℕ} → answer ≡ answerOf every s cut 256 (length old) → 1000 ≤ answer
   at-least {answer} p = go (o .verdict) refl
     where
       go : (v : Verdict) → o .verdict ≡ v → 1000 ≤ answer
@@ -92,7 +93,7 @@ module _ (s : List ℕ) (cut : ℕ) (old : List ℕ) (good-sheet : refusal s ≡
       go underivable q = omega (arith, number p underivable q)
       go exhausted q = omega (arith, number p exhausted q)
 
-  is-derivable : {answer : ℕ} → answer ≡ answerOf s cut 256 (length old) → answer < 2000 → o .verdict ≡ derivable
+  is-derivable : {answer : ℕ} → answer ≡ answerOf every s cut 256 (length old) → answer < 2000 → o .verdict ≡ derivable
   is-derivable {answer} p h = go (o .verdict) refl
     where
       go : (v : Verdict) → o .verdict ≡ v → o .verdict ≡ derivable
@@ -100,19 +101,19 @@ module _ (s : List ℕ) (cut : ℕ) (old : List ℕ) (good-sheet : refusal s ≡
       go underivable q = absurd (omega (arith, number p underivable q))
       go exhausted q = absurd (omega (arith, number p exhausted q))
 
-  is-underivable : {answer : ℕ} → answer ≡ answerOf s cut 256 (length old) → 2000 ≤ answer → o .verdict ≡ underivable
+  is-underivable : {answer : ℕ} → answer ≡ answerOf every s cut 256 (length old) → 2000 ≤ answer → o .verdict ≡ underivable
   is-underivable {answer} p h = go (o .verdict) refl
     where
       go : (v : Verdict) → o .verdict ≡ v → o .verdict ≡ underivable
       go derivable q = absurd (omega (arith, number p derivable q, few))
       go underivable q = q
-      go exhausted q = absurd (accepted-ends s cut 256 old fine (good s good-sheet .few) q)
+      go exhausted q = absurd (accepted-ends every s cut 256 old fine (good s good-sheet .few) q)
 
   -- the rungs that come with a number below 2000
-  pub made-steps : {answer made : ℕ} → answer ≡ answerOf s cut 256 (length old) → answer < 2000 → made ≡ answer - 1000 → made ≡ length (o .steps)
+  pub made-steps : {answer made : ℕ} → answer ≡ answerOf every s cut 256 (length old) → answer < 2000 → made ≡ answer - 1000 → made ≡ length (o .steps)
   made-steps p h q = omega (arith, number p derivable (is-derivable p h))
 
-  pub shown-reached : {answer made : ℕ} {d d₁ d₂ new : List ℕ} {at r₁ r₂ : ℕ} → answer ≡ answerOf s cut 256 (length old) → answer < 2000 → made ≡ answer - 1000 → new ≡ bufferOf s cut 256 old
+  pub shown-reached : {answer made : ℕ} {d d₁ d₂ new : List ℕ} {at r₁ r₂ : ℕ} → answer ≡ answerOf every s cut 256 (length old) → answer < 2000 → made ≡ answer - 1000 → new ≡ bufferOf every s cut 256 old
       → Appended d at (reachedLine cut made) d₁ r₁ → Appended d₁ r₁ (stepsText (stepsIn new made)) d₂ r₂ → Appended d at (cutText s cut) d₂ r₂
   unfolding cutText verdictText
   shown-reached {answer} {made} {new = new} p h q b line steps =
@@ -123,13 +124,13 @@ module _ (s : List ℕ) (cut : ℕ) (old : List ℕ) (good-sheet : refusal s ≡
       many = made-steps p h q
 
       back : stepsIn new made ≡ o .steps
-      back = ap₂ stepsIn b many ∙ accepted-steps s cut 256 old fine
+      back = ap₂ stepsIn b many ∙ accepted-steps every s cut 256 old fine
 
-  pub reached-is : {answer : ℕ} → answer ≡ answerOf s cut 256 (length old) → answer < 2000 → isReached (o .verdict) ≡ true
+  pub reached-is : {answer : ℕ} → answer ≡ answerOf every s cut 256 (length old) → answer < 2000 → isReached (o .verdict) ≡ true
   unfolding isReached
   reached-is p h = ap isReached (is-derivable p h)
 
-  pub shown-out : {answer count : ℕ} {d d₁ new : List ℕ} {at r₁ : ℕ} → answer ≡ answerOf s cut 256 (length old) → 2000 ≤ answer → new ≡ bufferOf s cut 256 old
+  pub shown-out : {answer count : ℕ} {d d₁ new : List ℕ} {at r₁ : ℕ} → answer ≡ answerOf every s cut 256 (length old) → 2000 ≤ answer → new ≡ bufferOf every s cut 256 old
       → count ≡ ones (cond (leb 32 (length new)) (setOf (take 32 new)) 0) → length new ≡ front + 40 * 256 → Appended d at (outLine cut count) d₁ r₁ → Appended d at (cutText s cut) d₁ r₁
   unfolding cutText verdictText
   shown-out {count = count} {new = new} p h b q l line =
@@ -138,9 +139,9 @@ module _ (s : List ℕ) (cut : ℕ) (old : List ℕ) (good-sheet : refusal s ≡
       figure : count ≡ known
       figure =
           q
-          ∙ ap ones (when-le 32 (length new) (setOf (take 32 new)) 0 (omega arith) ∙ ap gainedIn b ∙ accepted-known s cut 256 old fine)
+          ∙ ap ones (when-le 32 (length new) (setOf (take 32 new)) 0 (omega arith) ∙ ap gainedIn b ∙ accepted-known every s cut 256 old fine)
 
-  pub out-is : {answer : ℕ} → answer ≡ answerOf s cut 256 (length old) → 2000 ≤ answer → isReached (o .verdict) ≡ false
+  pub out-is : {answer : ℕ} → answer ≡ answerOf every s cut 256 (length old) → 2000 ≤ answer → isReached (o .verdict) ≡ false
   unfolding isReached
   out-is p h = ap isReached (is-underivable p h)
 
@@ -159,11 +160,11 @@ module _ (s : List ℕ) (last : ℕ) (d : List ℕ) (at : ℕ) where
       all = omega arith
 
   -- the next cut's text, and what follows it
-  next-cut : (cut : ℕ) → cut ≤ last → cutsFrom s cut (last + 1 - cut) ≡ cutText s cut ++ cond (isReached (outcomeOf s cut 256 .verdict)) [] (cutsFrom s (cut + 1) (last + 1 - (cut + 1)))
+  next-cut : (cut : ℕ) → cut ≤ last → cutsFrom s cut (last + 1 - cut) ≡ cutText s cut ++ cond (isReached (outcomeOf every s cut 256 .verdict)) [] (cutsFrom s (cut + 1) (last + 1 - (cut + 1)))
   unfolding cutsFrom
   next-cut cut h =
       ap (cutsFrom s cut) one
-      ∙ ap₂ (λ (c k : ℕ). cutText s cut ++ cond (isReached (outcomeOf s cut 256 .verdict)) [] (cutsFrom s c k)) (sym (add-one cut)) two
+      ∙ ap₂ (λ (c k : ℕ). cutText s cut ++ cond (isReached (outcomeOf every s cut 256 .verdict)) [] (cutsFrom s c k)) (sym (add-one cut)) two
     where
       one : last + 1 - cut ≡ suc (last - cut)
       one = omega arith
@@ -175,17 +176,17 @@ module _ (s : List ℕ) (last : ℕ) (d : List ℕ) (at : ℕ) where
     rest-of : List ℕ → List ℕ
     rest-of l = a .done ++ (cutText s cut ++ l)
 
-    whole : (b : Bool) → isReached (outcomeOf s cut 256 .verdict) ≡ b
+    whole : (b : Bool) → isReached (outcomeOf every s cut 256 .verdict) ≡ b
         → cutsFrom s 0 (last + 1) ≡ (a .done ++ cutText s cut) ++ cond b [] (cutsFrom s (cut + 1) (last + 1 - (cut + 1)))
     whole b p =
         a .rest
         ∙ ap (λ (l : List ℕ). a .done ++ l) (next-cut cut more ∙ ap (λ (t : Bool). cutText s cut ++ cond t [] (cutsFrom s (cut + 1) (last + 1 - (cut + 1)))) p)
         ∙ sym (append-assoc (a .done) (cutText s cut) (cond b [] (cutsFrom s (cut + 1) (last + 1 - (cut + 1)))))
 
-    pub along-reached : isReached (outcomeOf s cut 256 .verdict) ≡ true → Appended d at (cutsFrom s 0 (last + 1)) d₂ r₂
+    pub along-reached : isReached (outcomeOf every s cut 256 .verdict) ≡ true → Appended d at (cutsFrom s 0 (last + 1)) d₂ r₂
     along-reached p = append-as (sym (whole true p ∙ append-nil (a .done ++ cutText s cut))) (append-next (a .written) new)
 
-    pub along-more : isReached (outcomeOf s cut 256 .verdict) ≡ false → r₂ ≤ r₁ + 64 → Along s last d at (cut + 1) d₂ r₂
+    pub along-more : isReached (outcomeOf every s cut 256 .verdict) ≡ false → r₂ ≤ r₁ + 64 → Along s last d at (cut + 1) d₂ r₂
     along-more p h =
         record {
           done = a .done ++ cutText s cut;

@@ -1,13 +1,14 @@
 -- A closed set of entries from a property of codes.
 -- Defined: `Kept`, a property of codes is kept by the rules at one entry.
 -- Shown: a property that the empty code has, that sums keep, and that the rules at each pair and each encryption of the sheet keep,
--- is closed under the eight rules within the sheet. Assumes nothing.
+-- is closed under the rules within the sheet, in every setting. Assumes nothing.
 use mathlib.Core.Path.{_≡_, refl, sym, ap, _∙_, subst, subst₂}
 use mathlib.Core.List.{List, [], _∷_, map, List·Memᴰ, List·Memᴰ·head, List·Memᴰ·tail}
 use Prim.Native.Nat.{ℕ, _<_}
 use lib.Bits.{bitXor}
 use Rattle.bitset.specs.Set.{member}
 use Rattle.deduction.specs.Term.{Side, opposite, Term, half, sumOf, _≈_}
+use Rattle.deduction.specs.Setting.{Setting}
 use Rattle.deduction.specs.Entry.{Entry, Zero, Atom, Pair, Enc, Sum, Half, Aenc, build, Downward}
 use Rattle.deduction.proofs.Exactness.Within.{Closed}
 use Rattle.deduction.proofs.Coding.{bit, bit-own, place, halfPlace, code, code-zero, code-half, code-sum, same-code}
@@ -55,17 +56,18 @@ module _ (t : ℕ → Term) (e : ℕ → Entry) (n : ℕ) (down : Downward e n) 
   on-sheet : (i p : ℕ) → i < n → code (t i) ≡ bit p → OnSheet t e n p
   on-sheet i p h c = entry-places t e n down built i h p (ap (λ (s : ℕ). member s p) c ∙ bit-own p)
 
-  pub kept-closed : (P : ℕ → Type 0) → P 0 → ((v w : ℕ) → P v → P w → P (bitXor v w)) → ((i : ℕ) → i < n → Kept t P (e i)) → Closed t n (λ i. P (code (t i)))
-  kept-closed P none add kept = record {
-    first = λ i j b hi hj g q. at pairs i (t j) b hi q .0 (subst P (placed pairs (t j) b q) g);
-    second = λ i j a hi hj g q. at pairs i a (t j) hi q .1 (subst P (placed pairs a (t j) q) g);
-    decrypt = λ i j k hi hj hk g gk q. at encs i (t j) (t k) hi q .0 (subst P (placed encs (t j) (t k) q) g) gk;
-    join = λ i j k hi hj hk gj gk q. subst P (sym (placed pairs (t j) (t k) q)) (at pairs i (t j) (t k) hi q .2 gj gk);
-    encrypt = λ i j k hi hj hk gj gk q. subst P (sym (placed encs (t j) (t k) q)) (at encs i (t j) (t k) hi q .1 gj gk);
-    sum = λ i js hi g q. subst P (sym (same-code q)) (sum-kept t P none add js (λ j m. g j m .1));
-    adecrypt = λ i j k s a hi hj hk g gk q r.
+  pub kept-closed : (on : Setting) (P : ℕ → Type 0) → P 0 → ((v w : ℕ) → P v → P w → P (bitXor v w)) → ((i : ℕ) → i < n → Kept t P (e i)) → Closed on t n (λ i. P (code (t i)))
+  kept-closed on P none add kept = record {
+    same = λ i j hi hj g q. subst P (sym (same-code q)) g;
+    first = λ i j b o hi hj g q. at pairs i (t j) b hi q .0 (subst P (placed pairs (t j) b q) g);
+    second = λ i j a o hi hj g q. at pairs i a (t j) hi q .1 (subst P (placed pairs a (t j) q) g);
+    decrypt = λ i j k o hi hj hk g gk q. at encs i (t j) (t k) hi q .0 (subst P (placed encs (t j) (t k) q) g) gk;
+    join = λ i j k o hi hj hk gj gk q. subst P (sym (placed pairs (t j) (t k) q)) (at pairs i (t j) (t k) hi q .2 gj gk);
+    encrypt = λ i j k o hi hj hk gj gk q. subst P (sym (placed encs (t j) (t k) q)) (at encs i (t j) (t k) hi q .1 gj gk);
+    sum = λ i js o hi g q. subst P (sym (same-code q)) (sum-kept t P none add js (λ j m. g j m .1));
+    adecrypt = λ i j k s a o hi hj hk g gk q r.
         at aencs i (t j) (half s a) hi q s a (code-half s a) .0 (subst P (placed aencs (t j) (half s a) q) g) (subst P (same-code r ∙ code-half (opposite s) a) gk);
-    aencrypt = λ i j k s a hi hj hk gj gk q r. subst P (sym (placed aencs (t j) (t k) q)) (at aencs i (t j) (t k) hi q s a (same-code r ∙ code-half s a) .1 gj gk);
+    aencrypt = λ i j k s a o hi hj hk gj gk q r. subst P (sym (placed aencs (t j) (t k) q)) (at aencs i (t j) (t k) hi q s a (same-code r ∙ code-half s a) .1 gj gk);
   }
     where
       placed : (f : Form) (a b : Term) {u : Term} → u ≈ form f a b → code u ≡ bit (place (formPlace f) (code a) (code b))

@@ -13,6 +13,7 @@ use lib.ListN.{getD}
 use Rattle.bitset.specs.Set.{member}
 use Rattle.bitset.proofs.Laws.Member.{member-empty, member-sum}
 use Rattle.deduction.specs.Term.{Term, 𝟎, _⊕_, sumOf}
+use Rattle.deduction.specs.Setting.{every}
 use Rattle.deduction.specs.Entry.{Entry, Zero, Atom, Enc, Sum, build, termAt, parts, Downward}
 use Rattle.deduction.specs.Derivation.{Derivable}
 use Rattle.deduction.proofs.Coding.{bit, bit-own, bit-only, bit-other, place, place-same, code, code-zero, code-atom, code-enc, code-sum}
@@ -87,9 +88,9 @@ module _ (m k : ℕ) (apart : m ≡ k → ⊥) where
   kept (suc (suc (suc zero))) h = tt
   kept (suc (suc (suc (suc i)))) h = absurd (omega arith)
 
-  pub message-underivable : ¬ Derivable (map (termAt (sheet m k)) (3 ∷ 1 ∷ [])) (termAt (sheet m k) 0)
+  pub message-underivable : ¬ Derivable every (map (termAt (sheet m k)) (3 ∷ 1 ∷ [])) (termAt (sheet m k) 0)
   message-underivable =
-      kept-underivable (sheet m k) 4 (sheet-down m k) Both (member-empty p ∙ sym (member-empty q))
+      kept-underivable every (sheet m k) 4 (sheet-down m k) Both (member-empty p ∙ sym (member-empty q))
       (λ v w a b. member-sum v w p ∙ ap₂ xor a b ∙ sym (member-sum v w q)) kept (3 ∷ 1 ∷ []) start 0 (omega arith) not-0
     where
       Good : ℕ → Type 0
@@ -101,5 +102,5 @@ module _ (m k : ℕ) (apart : m ≡ k → ⊥) where
           (List·Memᴰ·cases-cons r)
 
 -- the card's own case, with atoms 1 and 2
-pub case-8 : ¬ Derivable (map (termAt (sheet 1 2)) (3 ∷ 1 ∷ [])) (termAt (sheet 1 2) 0)
+pub case-8 : ¬ Derivable every (map (termAt (sheet 1 2)) (3 ∷ 1 ∷ [])) (termAt (sheet 1 2) 0)
 case-8 = message-underivable 1 2 (omega arith)

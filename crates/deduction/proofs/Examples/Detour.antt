@@ -10,6 +10,7 @@ use lib.ListN.{getD}
 use Rattle.bitset.specs.Set.{member}
 use Rattle.bitset.proofs.Laws.Member.{member-empty, member-sum}
 use Rattle.deduction.specs.Term.{Term, atom, pair, enc, _≈_, same}
+use Rattle.deduction.specs.Setting.{every}
 use Rattle.deduction.specs.Entry.{Entry, Zero, Atom, build, termAt, parts, Downward}
 use Rattle.deduction.specs.Derivation.{Holds, Derivation, Derivable, begin, join, encrypt}
 use Rattle.deduction.proofs.Coding.{bit-own, bit-other, place, place-same, code, code-atom}
@@ -42,8 +43,8 @@ twin = pair (termAt sheet 0) (termAt sheet 0)
 abbrev pub wrapped : Term
 wrapped = enc twin (termAt sheet 0)
 
-pub detour : Derivation (map (termAt sheet) (0 ∷ [])) (wrapped ∷ twin ∷ termAt sheet 0 ∷ [])
-detour = encrypt (join begin here here) (twin, List·Memᴰ·head refl, same) (termAt sheet 0, List·Memᴰ·tail (List·Memᴰ·head refl), same)
+pub detour : Derivation every (map (termAt sheet) (0 ∷ [])) (wrapped ∷ twin ∷ termAt sheet 0 ∷ [])
+detour = encrypt refl (join refl begin here here) (twin, List·Memᴰ·head refl, same) (termAt sheet 0, List·Memᴰ·tail (List·Memᴰ·head refl), same)
   where
     here : Holds (termAt sheet 0 ∷ []) (termAt sheet 0)
     here = (termAt sheet 0, List·Memᴰ·head refl, same)
@@ -75,8 +76,8 @@ lacks-0 = subst Lacks (sym (ap code term-0 ∙ code-atom 1)) (bit-other _ _ (λ 
 has-1 : ¬ Lacks (code (termAt sheet 1))
 has-1 h = true≢false (sym (bit-own _) ∙ subst Lacks (ap code term-1 ∙ code-atom 2) h)
 
-pub other-underivable : ¬ Derivable (map (termAt sheet) (0 ∷ [])) (termAt sheet 1)
+pub other-underivable : ¬ Derivable every (map (termAt sheet) (0 ∷ [])) (termAt sheet 1)
 unfolding xor
 other-underivable =
-    kept-underivable sheet 2 sheet-down Lacks (member-empty (place 0 2 0)) (λ v w a b. member-sum v w (place 0 2 0) ∙ ap₂ xor a b) kept (0 ∷ [])
+    kept-underivable every sheet 2 sheet-down Lacks (member-empty (place 0 2 0)) (λ v w a b. member-sum v w (place 0 2 0) ∙ ap₂ xor a b) kept (0 ∷ [])
     (λ i r. subst (λ (x : ℕ). (x < 2) × Lacks (code (termAt sheet x))) (sym (List·Memᴰ·eq-of-singleton r)) (omega arith, lacks-0)) 1 (omega arith) has-1

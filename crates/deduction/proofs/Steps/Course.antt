@@ -4,7 +4,7 @@
 use mathlib.Core.Path.{_≡_, refl, sym, ap₂, _∙_, subst}
 use mathlib.Core.Bool.{Bool, true, false, true≢false, cond, not, _&&_}
 use mathlib.Core.Logic.{_⊎_, inl, inr, _↔_}
-use mathlib.Core.List.{List, [], _∷_, _++_, map, append-nil, append-assoc, List·Memᴰ, Memᴰ·map, Memᴰ·of-map, Memᴰ·cast}
+use mathlib.Core.List.{List, [], _∷_, _++_, append-nil, append-assoc, List·Memᴰ, Memᴰ·map, Memᴰ·of-map, Memᴰ·cast}
 use Prim.Native.Nat.{ℕ, zero, suc, _≤_, _<_}
 use native.Mathlib.Omega.{arith}
 use lib.Dec.{eqb}
@@ -12,9 +12,10 @@ use lib.ListN.{length, take}
 use borrow.Author.Tests.{eqb-true, eqb-false, not-true}
 use Rattle.bitset.specs.Set.{member}
 use Rattle.deduction.specs.Term.{Term, _≈_, flip}
+use Rattle.deduction.specs.Setting.{Setting}
 use Rattle.deduction.specs.Entry.{Entry, termAt, Downward}
 use Rattle.deduction.specs.Standard.{repAt}
-use Rattle.deduction.specs.Step.{Step, Follows, IsNext}
+use Rattle.deduction.specs.Step.{Step, FollowsIn, IsNext}
 use Rattle.deduction.specs.Course.{Verdict, derivable, underivable, exhausted, Gained, Course}
 use Rattle.deduction.specs.Run.{knowledge, noStep, nextNumber, reached, nextStep, goesOn, ended, run, Outcome, after}
 use Rattle.deduction.proofs.Standard.{rep-same}
@@ -25,22 +26,22 @@ use Rattle.deduction.proofs.Steps.InOrder.{Made}
 use Rattle.deduction.proofs.Steps.Run.{heads}
 
 -- the steps of a course, over any terms
-module _ {t : ℕ → Term} {n goal : ℕ} where
-  pub course-made : {b : ℕ} {es : List ℕ} {ss : List Step} {v : Verdict} → Course t n goal b es ss v → Made t n es ss
+module _ {on : Setting} {t : ℕ → Term} {n goal : ℕ} where
+  pub course-made : {b : ℕ} {es : List ℕ} {ss : List Step} {v : Verdict} → Course on t n goal b es ss v → Made on t n es ss
   course-made (Course.reached g) = Made.none
   course-made (Course.stuck k f) = Made.none
   course-made (Course.stopped k f) = Made.none
   course-made (Course.more k x c) = Made.more x (course-made c)
 
   -- at most as many as the budget
-  pub course-budget : {b : ℕ} {es : List ℕ} {ss : List Step} {v : Verdict} → Course t n goal b es ss v → length ss ≤ b
+  pub course-budget : {b : ℕ} {es : List ℕ} {ss : List Step} {v : Verdict} → Course on t n goal b es ss v → length ss ≤ b
   course-budget (Course.reached g) = omega arith
   course-budget (Course.stuck k f) = omega arith
   course-budget (Course.stopped k f) = omega arith
   course-budget (Course.more k x c) = let l = course-budget c in omega arith
 
   -- before a step the goal isn't known: not at the start if there is a step, and not after a proper prefix
-  pub course-before : {b : ℕ} {es : List ℕ} {ss : List Step} {v : Verdict} → Course t n goal b es ss v
+  pub course-before : {b : ℕ} {es : List ℕ} {ss : List Step} {v : Verdict} → Course on t n goal b es ss v
       → (k : ℕ) → k < length ss → ¬ Gained t n goal (es ++ heads (take k ss))
   course-before (Course.reached g) k l = absurd (omega arith)
   course-before (Course.stuck u f) k l = absurd (omega arith)
@@ -50,37 +51,37 @@ module _ {t : ℕ → Term} {n goal : ℕ} where
       λ g. course-before c k (omega arith) (subst (Gained t n goal) (sym (append-assoc es (s .head ∷ []) (heads (take k ss)))) g)
 
   -- at the end, by the verdict
-  pub course-reached : {b : ℕ} {es : List ℕ} {ss : List Step} {v : Verdict} → Course t n goal b es ss v → v ≡ derivable → Gained t n goal (es ++ heads ss)
+  pub course-reached : {b : ℕ} {es : List ℕ} {ss : List Step} {v : Verdict} → Course on t n goal b es ss v → v ≡ derivable → Gained t n goal (es ++ heads ss)
   course-reached {es} (Course.reached g) p = subst (Gained t n goal) (sym (append-nil es)) g
   course-reached (Course.stuck u f) p = absurd (let z : _≡_ {A = ℕ} 0 1 = cc in omega arith)
   course-reached (Course.stopped u f) p = absurd (let z : _≡_ {A = ℕ} 0 1 = cc in omega arith)
   course-reached {es} (Course.more {s = s} {ss = ss} u x c) p = subst (Gained t n goal) (append-assoc es (s .head ∷ []) (heads ss)) (course-reached c p)
 
-  pub course-stuck : {b : ℕ} {es : List ℕ} {ss : List Step} {v : Verdict} → Course t n goal b es ss v → v ≡ underivable
-      → (¬ Gained t n goal (es ++ heads ss)) × ((s : Step) → ¬ Follows t n (es ++ heads ss) s)
+  pub course-stuck : {b : ℕ} {es : List ℕ} {ss : List Step} {v : Verdict} → Course on t n goal b es ss v → v ≡ underivable
+      → (¬ Gained t n goal (es ++ heads ss)) × ((s : Step) → ¬ FollowsIn on t n (es ++ heads ss) s)
   course-stuck (Course.reached g) p = absurd (let z : _≡_ {A = ℕ} 0 1 = cc in omega arith)
-  course-stuck {es} (Course.stuck u f) p = subst (λ (l : List ℕ). (¬ Gained t n goal l) × ((s : Step) → ¬ Follows t n l s)) (sym (append-nil es)) (u, f)
+  course-stuck {es} (Course.stuck u f) p = subst (λ (l : List ℕ). (¬ Gained t n goal l) × ((s : Step) → ¬ FollowsIn on t n l s)) (sym (append-nil es)) (u, f)
   course-stuck (Course.stopped u f) p = absurd (let z : _≡_ {A = ℕ} 0 1 = cc in omega arith)
   course-stuck {es} (Course.more {s = s} {ss = ss} u x c) p =
-      subst (λ (l : List ℕ). (¬ Gained t n goal l) × ((r : Step) → ¬ Follows t n l r)) (append-assoc es (s .head ∷ []) (heads ss)) (course-stuck c p)
+      subst (λ (l : List ℕ). (¬ Gained t n goal l) × ((r : Step) → ¬ FollowsIn on t n l r)) (append-assoc es (s .head ∷ []) (heads ss)) (course-stuck c p)
 
-  pub course-stopped : {b : ℕ} {es : List ℕ} {ss : List Step} {v : Verdict} → Course t n goal b es ss v → v ≡ exhausted
-      → (length ss ≡ b) × (¬ Gained t n goal (es ++ heads ss)) × ((s : Step) × Follows t n (es ++ heads ss) s)
+  pub course-stopped : {b : ℕ} {es : List ℕ} {ss : List Step} {v : Verdict} → Course on t n goal b es ss v → v ≡ exhausted
+      → (length ss ≡ b) × (¬ Gained t n goal (es ++ heads ss)) × ((s : Step) × FollowsIn on t n (es ++ heads ss) s)
   course-stopped (Course.reached g) p = absurd (let z : _≡_ {A = ℕ} 0 1 = cc in omega arith)
   course-stopped (Course.stuck u f) p = absurd (let z : _≡_ {A = ℕ} 0 1 = cc in omega arith)
   course-stopped {es} (Course.stopped {s = s} u f) p =
-      let rest = subst (λ (l : List ℕ). (¬ Gained t n goal l) × ((r : Step) × Follows t n l r)) (sym (append-nil es)) (u, (s, f)) in
+      let rest = subst (λ (l : List ℕ). (¬ Gained t n goal l) × ((r : Step) × FollowsIn on t n l r)) (sym (append-nil es)) (u, (s, f)) in
       (refl, rest .0, rest .1)
   course-stopped {es} (Course.more {s = s} {ss = ss} u x c) p =
       let (q, u′, f) = course-stopped c p in
-      let rest = subst (λ (l : List ℕ). (¬ Gained t n goal l) × ((r : Step) × Follows t n l r)) (append-assoc es (s .head ∷ []) (heads ss)) (u′, f) in
+      let rest = subst (λ (l : List ℕ). (¬ Gained t n goal l) × ((r : Step) × FollowsIn on t n l r)) (append-assoc es (s .head ∷ []) (heads ss)) (u′, f) in
       (omega arith, rest .0, rest .1)
 
 -- over the entries of a sheet
 module _ (e : ℕ → Entry) (n : ℕ) (down : Downward e n) (goal : ℕ) where
-  -- one start and one budget have one course
-  pub course-unique : {b : ℕ} {es : List ℕ} {ss rs : List Step} {v w : Verdict} → Heads e n es
-      → Course (termAt e) n goal b es ss v → Course (termAt e) n goal b es rs w → (ss ≡ rs) × (v ≡ w)
+  -- one setting, one start and one budget have one course
+  pub course-unique : {on : Setting} {b : ℕ} {es : List ℕ} {ss rs : List Step} {v w : Verdict} → Heads e n es
+      → Course on (termAt e) n goal b es ss v → Course on (termAt e) n goal b es rs w → (ss ≡ rs) × (v ≡ w)
   course-unique hs (Course.reached g) (Course.reached h) = (refl, refl)
   course-unique hs (Course.reached g) (Course.stuck u f) = absurd (u g)
   course-unique hs (Course.reached g) (Course.stopped u f) = absurd (u g)
@@ -94,18 +95,18 @@ module _ (e : ℕ → Entry) (n : ℕ) (down : Downward e n) (goal : ℕ) where
   course-unique hs (Course.stopped u f) (Course.stopped h k) = (refl, refl)
   course-unique hs (Course.more u x c) (Course.reached g) = absurd (u g)
   course-unique hs (Course.more {s = s} u x c) (Course.stuck h k) = absurd (k s (x .0))
-  course-unique {es = es} hs (Course.more {b = b} {s = s} {v = v} u x c) (Course.more {s = r} {ss = rs} {v = w} h y d) =
-      let p : s ≡ r = next-unique e n down es hs s r x y in
-      let (q, z) = course-unique (heads-more e n down es s hs (x .0)) c (subst (λ (a : Step). Course (termAt e) n goal b (es ++ (a .head ∷ [])) rs w) (sym p) d) in
+  course-unique {on = on} {es = es} hs (Course.more {b = b} {s = s} {v = v} u x c) (Course.more {s = r} {ss = rs} {v = w} h y d) =
+      let p : s ≡ r = next-unique e n down es hs on s r x y in
+      let (q, z) = course-unique (heads-more e n down es s hs (x .0 .1)) c (subst (λ (a : Step). Course on (termAt e) n goal b (es ++ (a .head ∷ [])) rs w) (sym p) d) in
       (ap₂ (λ (a : Step) (l : List Step). a ∷ l) p q, z)
 
   -- what is known at its end are heads
-  pub course-heads : {b : ℕ} {es : List ℕ} {ss : List Step} {v : Verdict} → Heads e n es → Course (termAt e) n goal b es ss v → Heads e n (es ++ heads ss)
+  pub course-heads : {on : Setting} {b : ℕ} {es : List ℕ} {ss : List Step} {v : Verdict} → Heads e n es → Course on (termAt e) n goal b es ss v → Heads e n (es ++ heads ss)
   course-heads {es = es} hs (Course.reached g) = subst (Heads e n) (sym (append-nil es)) hs
   course-heads {es = es} hs (Course.stuck u f) = subst (Heads e n) (sym (append-nil es)) hs
   course-heads {es = es} hs (Course.stopped u f) = subst (Heads e n) (sym (append-nil es)) hs
   course-heads {es = es} hs (Course.more {s = s} {ss = ss} u x c) =
-      subst (Heads e n) (append-assoc es (s .head ∷ []) (heads ss)) (course-heads (heads-more e n down es s hs (x .0)) c)
+      subst (Heads e n) (append-assoc es (s .head ∷ []) (heads ss)) (course-heads (heads-more e n down es s hs (x .0 .1)) c)
 
   -- the goal is known exactly when its head is
   module _ (low : goal < n) (es : List ℕ) (hs : Heads e n es) where
@@ -118,11 +119,11 @@ module _ (e : ℕ → Entry) (n : ℕ) (down : Downward e n) (goal : ℕ) where
     head-gained m = (termAt e (repAt e goal), Memᴰ·map (termAt e) m, rep-same e n down goal low)
 
   -- the run makes the course
-  module _ (low : goal < n) (small : n ≤ 256) where
-    ended-course : (b : ℕ) (es : List ℕ) → Heads e n es → (b ≡ 0) ⊎ (goesOn e n goal es ≡ false)
-        → Course (termAt e) n goal b es [] (ended e n goal es .verdict)
+  module _ (on : Setting) (low : goal < n) (small : n ≤ 256) where
+    ended-course : (b : ℕ) (es : List ℕ) → Heads e n es → (b ≡ 0) ⊎ (goesOn on e n goal es ≡ false)
+        → Course on (termAt e) n goal b es [] (ended on e n goal es .verdict)
     unfolding ended goesOn reached
-    ended-course b es hs w = go (member (knowledge e es .known) (repAt e goal)) (eqb (nextNumber e n (knowledge e es)) noStep) refl refl w
+    ended-course b es hs w = go (member (knowledge e es .known) (repAt e goal)) (eqb (nextNumber on e n (knowledge e es)) noStep) refl refl w
       where
         members : (i : ℕ) → (member (knowledge e es .known) i ≡ true) ↔ List·Memᴰ i es
         members = knowledge-learnt e n down es hs .members
@@ -130,30 +131,30 @@ module _ (e : ℕ → Entry) (n : ℕ) (down : Downward e n) (goal : ℕ) where
         open-goal : member (knowledge e es .known) (repAt e goal) ≡ false → ¬ Gained (termAt e) n goal es
         open-goal p g = true≢false (sym (members (repAt e goal) .1 (gained-head low es hs g)) ∙ p)
 
-        go : (a c : Bool) → member (knowledge e es .known) (repAt e goal) ≡ a → eqb (nextNumber e n (knowledge e es)) noStep ≡ c → (b ≡ 0) ⊎ (not a && not c ≡ false)
-            → Course (termAt e) n goal b es [] (cond a derivable (cond c underivable exhausted))
+        go : (a c : Bool) → member (knowledge e es .known) (repAt e goal) ≡ a → eqb (nextNumber on e n (knowledge e es)) noStep ≡ c → (b ≡ 0) ⊎ (not a && not c ≡ false)
+            → Course on (termAt e) n goal b es [] (cond a derivable (cond c underivable exhausted))
         go true c p q h = Course.reached (head-gained low es hs (members (repAt e goal) .0 p))
-        go false true p q h = Course.stuck (open-goal p) (next-none e n down es hs small .0 (eqb-true (nextNumber e n (knowledge e es)) noStep q))
+        go false true p q h = Course.stuck (open-goal p) (next-none e n down es hs small on .0 (eqb-true (nextNumber on e n (knowledge e es)) noStep q))
         go false false p q (inr h) = absurd (true≢false h)
         go false false p q (inl h) =
-            subst (λ (k : ℕ). Course (termAt e) n goal k es [] exhausted) (sym h)
-            (Course.stopped (open-goal p) (next-isNext e n down es hs small (eqb-false (nextNumber e n (knowledge e es)) noStep q) .0))
+            subst (λ (k : ℕ). Course on (termAt e) n goal k es [] exhausted) (sym h)
+            (Course.stopped (open-goal p) (next-isNext e n down es hs small on (eqb-false (nextNumber on e n (knowledge e es)) noStep q) .0))
 
-    pub run-course : (b : ℕ) (es : List ℕ) → Heads e n es → Course (termAt e) n goal b es (run e n goal b es .steps) (run e n goal b es .verdict)
+    pub run-course : (b : ℕ) (es : List ℕ) → Heads e n es → Course on (termAt e) n goal b es (run on e n goal b es .steps) (run on e n goal b es .verdict)
     unfolding run after ended goesOn reached
     run-course zero es hs = ended-course zero es hs (inl refl)
-    run-course (suc b) es hs = go (goesOn e n goal es) refl (λ l. run-course b (es ++ (nextStep e n es .head ∷ [])) l)
+    run-course (suc b) es hs = go (goesOn on e n goal es) refl (λ l. run-course b (es ++ (nextStep on e n es .head ∷ [])) l)
       where
         Makes : ℕ → Outcome → Type 0
-        Makes k o = Course (termAt e) n goal k es (o .steps) (o .verdict)
+        Makes k o = Course on (termAt e) n goal k es (o .steps) (o .verdict)
 
         rest : Outcome
-        rest = run e n goal b (es ++ (nextStep e n es .head ∷ []))
+        rest = run on e n goal b (es ++ (nextStep on e n es .head ∷ []))
 
-        go : (c : Bool) → goesOn e n goal es ≡ c → (Heads e n (es ++ (nextStep e n es .head ∷ [])) → Course (termAt e) n goal b (es ++ (nextStep e n es .head ∷ [])) (rest .steps) (rest .verdict))
-            → Makes (suc b) (elim c as (λ x. Outcome) [ true ↦ after (nextStep e n es) rest | false ↦ ended e n goal es ])
+        go : (c : Bool) → goesOn on e n goal es ≡ c → (Heads e n (es ++ (nextStep on e n es .head ∷ [])) → Course on (termAt e) n goal b (es ++ (nextStep on e n es .head ∷ [])) (rest .steps) (rest .verdict))
+            → Makes (suc b) (elim c as (λ x. Outcome) [ true ↦ after (nextStep on e n es) rest | false ↦ ended on e n goal es ])
         go true p ih =
-            let (k, f) = both-true (not (reached e goal (knowledge e es))) (not (eqb (nextNumber e n (knowledge e es)) noStep)) p in
-            let next : IsNext (termAt e) n es (nextStep e n es) = next-isNext e n down es hs small (eqb-false (nextNumber e n (knowledge e es)) noStep (not-true _ f)) in
-            Course.more (λ g. true≢false (sym (knowledge-learnt e n down es hs .members (repAt e goal) .1 (gained-head low es hs g)) ∙ not-true _ k)) next (ih (heads-more e n down es (nextStep e n es) hs (next .0)))
+            let (k, f) = both-true (not (reached e goal (knowledge e es))) (not (eqb (nextNumber on e n (knowledge e es)) noStep)) p in
+            let next : IsNext on (termAt e) n es (nextStep on e n es) = next-isNext e n down es hs small on (eqb-false (nextNumber on e n (knowledge e es)) noStep (not-true _ f)) in
+            Course.more (λ g. true≢false (sym (knowledge-learnt e n down es hs .members (repAt e goal) .1 (gained-head low es hs g)) ∙ not-true _ k)) next (ih (heads-more e n down es (nextStep on e n es) hs (next .0 .1)))
         go false p ih = ended-course (suc b) es hs (inr p)

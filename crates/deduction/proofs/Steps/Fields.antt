@@ -8,6 +8,7 @@ use Prim.Native.Nat.{ℕ, _≤_, _<_}
 use native.Mathlib.Omega.{arith}
 use Rattle.bitset.specs.Set.{member}
 use Rattle.deduction.specs.Term.{Side, opposite, Term, enc, half, aenc, _≈_}
+use Rattle.deduction.specs.Setting.{Setting}
 use Rattle.deduction.specs.Step.{Step}
 use Rattle.deduction.specs.Replay.{Right, Replays, done, next}
 
@@ -28,9 +29,9 @@ right-fields t n (Right.adecrypt s a l p c q r) = two (inr (omega arith, omega a
 right-fields t n (Right.aencrypt s a l p c q r) = two (inr (omega arith, omega arith)) l (p .0) (c .0) refl
 
 -- so has every step of a replay
-pub replays-fields : (t : ℕ → Term) (n : ℕ) {g a : List Term} {ss : List Step} → Replays t n g ss a → (s : Step) → List·Memᴰ s ss → Fields n s
+pub replays-fields : {on : Setting} (t : ℕ → Term) (n : ℕ) {g a : List Term} {ss : List Step} → Replays on t n g ss a → (s : Step) → List·Memᴰ s ss → Fields n s
 replays-fields t n done s m = absurd (List·Memᴰ·not-nil m)
-replays-fields t n (next r rs) s m = elim (List·Memᴰ·cases-cons m) [ inl p ↦ subst (Fields n) (sym p) (right-fields t n r) | inr q ↦ replays-fields t n rs s q ]
+replays-fields t n (next w r rs) s m = elim (List·Memᴰ·cases-cons m) [ inl p ↦ subst (Fields n) (sym p) (right-fields t n r) | inr q ↦ replays-fields t n rs s q ]
 
 -- a right step by rule 3 opens what its first source is, with its second
 pub right-decrypt : (t : ℕ → Term) (n : ℕ) {g : List Term} {s : Step} → Right t n g s → s .rule ≡ 3 → t (s .first) ≈ enc (t (s .head)) (t (s .second))

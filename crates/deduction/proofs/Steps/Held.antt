@@ -5,6 +5,7 @@ use mathlib.Core.Path.{refl}
 use mathlib.Core.Logic.{_↔_, inl, inr}
 use mathlib.Core.List.{List, _∷_, List·Memᴰ·head, List·Memᴰ·tail, List·Memᴰ·cases-cons}
 use Rattle.deduction.specs.Term.{Term, _≈_, same, flip, then}
+use Rattle.deduction.specs.Setting.{Setting}
 use Rattle.deduction.specs.Derivation.{Holds, Derivation, Derivable, begin, first, second, decrypt, join, encrypt, sum, adecrypt, aencrypt}
 
 abbrev pub Keeps : List Term → List Term → Type 0
@@ -32,16 +33,16 @@ keeps-newest {g} {h} a b q f u (v, m, p) =
     ]
 
 -- a derivation from a start that holds as much
-pub derivation-kept : {start other g : List Term} → Keeps start other → Derivation start g → (h : List Term) × Derivation other h × Keeps g h
-derivation-kept {start} {other} f begin = (other, begin, f)
-derivation-kept f (first {a = a} d p) = let (h, c, k) = derivation-kept f d in (a ∷ h, first c (k _ p), keeps-newest a a same k)
-derivation-kept f (second {b = b} d p) = let (h, c, k) = derivation-kept f d in (b ∷ h, second c (k _ p), keeps-newest b b same k)
-derivation-kept f (decrypt {m = m} d p q) = let (h, c, k) = derivation-kept f d in (m ∷ h, decrypt c (k _ p) (k _ q), keeps-newest m m same k)
-derivation-kept f (join d p q) = let (h, c, k) = derivation-kept f d in (_, join c (k _ p) (k _ q), keeps-newest _ _ same k)
-derivation-kept f (encrypt d p q) = let (h, c, k) = derivation-kept f d in (_, encrypt c (k _ p) (k _ q), keeps-newest _ _ same k)
-derivation-kept f (sum ts d p) = let (h, c, k) = derivation-kept f d in (_, sum ts c (λ u m. k u (p u m)), keeps-newest _ _ same k)
-derivation-kept f (adecrypt {m = m} d p q) = let (h, c, k) = derivation-kept f d in (m ∷ h, adecrypt c (k _ p) (k _ q), keeps-newest m m same k)
-derivation-kept f (aencrypt d p q) = let (h, c, k) = derivation-kept f d in (_, aencrypt c (k _ p) (k _ q), keeps-newest _ _ same k)
+pub derivation-kept : {on : Setting} {start other g : List Term} → Keeps start other → Derivation on start g → (h : List Term) × Derivation on other h × Keeps g h
+derivation-kept {other = other} f begin = (other, begin, f)
+derivation-kept f (first {a = a} o d p) = let (h, c, k) = derivation-kept f d in (a ∷ h, first o c (k _ p), keeps-newest a a same k)
+derivation-kept f (second {b = b} o d p) = let (h, c, k) = derivation-kept f d in (b ∷ h, second o c (k _ p), keeps-newest b b same k)
+derivation-kept f (decrypt {m = m} o d p q) = let (h, c, k) = derivation-kept f d in (m ∷ h, decrypt o c (k _ p) (k _ q), keeps-newest m m same k)
+derivation-kept f (join o d p q) = let (h, c, k) = derivation-kept f d in (_, join o c (k _ p) (k _ q), keeps-newest _ _ same k)
+derivation-kept f (encrypt o d p q) = let (h, c, k) = derivation-kept f d in (_, encrypt o c (k _ p) (k _ q), keeps-newest _ _ same k)
+derivation-kept f (sum ts o d p) = let (h, c, k) = derivation-kept f d in (_, sum ts o c (λ u m. k u (p u m)), keeps-newest _ _ same k)
+derivation-kept f (adecrypt {m = m} o d p q) = let (h, c, k) = derivation-kept f d in (m ∷ h, adecrypt o c (k _ p) (k _ q), keeps-newest m m same k)
+derivation-kept f (aencrypt o d p q) = let (h, c, k) = derivation-kept f d in (_, aencrypt o c (k _ p) (k _ q), keeps-newest _ _ same k)
 
-pub derivable-kept : {start other : List Term} → Keeps start other → (u : Term) → Derivable start u → Derivable other u
+pub derivable-kept : {on : Setting} {start other : List Term} → Keeps start other → (u : Term) → Derivable on start u → Derivable on other u
 derivable-kept f u (g, d, p) = let (h, c, k) = derivation-kept f d in (h, c, k u p)

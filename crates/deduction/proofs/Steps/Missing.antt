@@ -5,7 +5,7 @@
 -- empty, unless the entry is known (`missing-some`), and it holds no highest-numbered entry of any derivable sum (`missing-widest`). Assumes nothing.
 use mathlib.Core.Path.{_≡_, refl, sym, ap, ap₂, _∙_, subst}
 use mathlib.Core.Bool.{Bool, true, false, true≢false, xor}
-use mathlib.Core.List.{List, [], _∷_, map, List·Memᴰ, List·Memᴰ·head, List·Memᴰ·tail, List·Memᴰ·eq-of-singleton, Memᴰ·map, Memᴰ·of-map, Memᴰ·cast}
+use mathlib.Core.List.{List, [], _∷_, map, List·Memᴰ, List·Memᴰ·eq-of-singleton, Memᴰ·map, Memᴰ·of-map, Memᴰ·cast}
 use Prim.Native.Nat.{ℕ, _≤_, _<_}
 use native.Mathlib.Nat.{lt-of-lt-of-le}
 use native.Mathlib.Omega.{arith}
@@ -16,12 +16,13 @@ use Rattle.bitset.specs.Set.{member, leading}
 use Rattle.bitset.proofs.Laws.Member.{member-empty, member-single, member-le, member-sum, xor-false}
 use Rattle.bitset.proofs.Laws.Leading.{leading-member, leading-top}
 use Rattle.bitset.proofs.Laws.Sums.{sum-cancel-right, sum-empty-same, sum-move}
-use Rattle.deduction.specs.Term.{Term, _⊕_, sumOf, _≈_, unit, in-sum, same, flip, then}
+use Rattle.deduction.specs.Term.{Term, _⊕_, sumOf, _≈_, unit, same, flip, then}
 use Rattle.deduction.specs.Derivation.{Holds, Derivable}
+use Rattle.deduction.specs.Setting.{Setting}
 use Rattle.deduction.specs.Entry.{Entry, termAt, Downward}
 use Rattle.deduction.specs.Standard.{xorAll, setAt, repAt, standard, StandardSet, sumOfSet}
 use Rattle.deduction.specs.Elimination.{Reduced, Knowledge, reduce}
-use Rattle.deduction.specs.Step.{Step, step, unused, Follows}
+use Rattle.deduction.specs.Step.{Step, step, unused, Follows, FollowsIn}
 use Rattle.deduction.specs.Missing.{Leads, Missing}
 use Rattle.deduction.proofs.Elimination.Spans.{Span, NoLeading, xorOver, Independent}
 use Rattle.deduction.proofs.Elimination.Sums.{xorOver-empty, xorOver-sum, xorOver-span, xorAll-span, span-xorAll}
@@ -39,7 +40,7 @@ use Rattle.deduction.proofs.Standard.Independent.{set-standard, sum-sta
 use Rattle.deduction.proofs.Standard.SumTest.{code-over, over-standard, sum-test-total}
 use Rattle.deduction.proofs.Steps.Head.{Heads, rep-is-head}
 use Rattle.deduction.proofs.Steps.Next.{knowledge-learnt}
-use Rattle.deduction.proofs.Steps.Closed.{closed}
+use Rattle.deduction.proofs.Steps.Closed.{sum-heads, closed}
 use Rattle.deduction.proofs.Steps.Drawn.{drawn-independent}
 
 -- two that don't differ are equal
@@ -49,14 +50,6 @@ xor-none true true p = refl
 xor-none true false p = absurd (true≢false p)
 xor-none false true p = absurd (true≢false p)
 xor-none false false p = refl
-
--- a sum of entries' terms is the sum of their heads' terms
-sum-heads : (e : ℕ → Entry) (n : ℕ) → Downward e n → (js : List ℕ) → ((j : ℕ) → List·Memᴰ j js → j < n)
-    → sumOf (map (termAt e) js) ≈ sumOf (map (termAt e) (map (repAt e) js))
-unfolding sumOf
-sum-heads e n down [] below = same
-sum-heads e n down (j ∷ js) below =
-    in-sum (flip (rep-same e n down j (below j (List·Memᴰ·head refl)))) (sum-heads e n down js (λ x c. below x (List·Memᴰ·tail c)))
 
 module _ (e : ℕ → Entry) (n : ℕ) (down : Downward e n) {es : List ℕ} where
   -- a known standard entry leads
@@ -79,10 +72,10 @@ module _ (e : ℕ → Entry) (n : ℕ) (down : Downward e n) {es : List ℕ} whe
     pub remainder-unknown : (j : ℕ) → member r j ≡ true → ¬ List·Memᴰ j es
     remainder-unknown j h c = let (lj, s) = m .standards j h in m .bare j h (known-leads j lj s c)
 
-    -- with the used terms, who can derive the sum of the remainder's terms can derive the entry's
-    pub missing-enough : (start : List Term) → ((j : ℕ) → member u j ≡ true → Derivable start (termAt e j))
-        → Derivable start (sumOfSet (termAt e) n r) → Derivable start (termAt e i)
-    missing-enough start each rest = derive-same (derive-sum (derive-set (termAt e) n u each) rest) (flip (m .total))
+    -- with sum, and with the used terms, who can derive the sum of the remainder's terms can derive the entry's
+    pub missing-enough : {on : Setting} → on 6 ≡ true → (start : List Term) → ((j : ℕ) → member u j ≡ true → Derivable on start (termAt e j))
+        → Derivable on start (sumOfSet (termAt e) n r) → Derivable on start (termAt e i)
+    missing-enough o start each rest = derive-same (derive-sum o (derive-set (termAt e) n u o each) rest) (flip (m .total))
 
 module _ (e : ℕ → Entry) (n : ℕ) (down : Downward e n) {es : List ℕ} {k : Knowledge} (l : Learnt (setAt e) n es k) where
   -- the set of a sum of known terms is in the span of their sets
@@ -199,12 +192,14 @@ module _ (e : ℕ → Entry) (n : ℕ) (down : Downward e n) {es : List ℕ} {k 
               go true p = absurd (let q = leading-top d h p in omega arith)
               go false p = xor-none (member x h) (member r h) (sym (member-sum x r h) ∙ p)
 
-      -- where no step follows and the entry isn't known, something remains
-      pub missing-some : ¬ Holds (map (termAt e) es) (termAt e i) → ((s : Step) → ¬ Follows (termAt e) n es s) → ¬ (r ≡ 0)
-      missing-some unknown stuck z =
-          stuck (step (repAt e i) 6 unused unused u)
-          (Follows.sum u (rep-is-head e n down i low, λ c. unknown (termAt e (repAt e i), Memᴰ·map (termAt e) c, rep-same e n down i low)) (m .drawn)
-          (then (rep-same e n down i low) (by-code (same-code (m .total) ∙ without))))
+      -- where sum is on, no step follows and the entry isn't known, something remains
+      pub missing-some : (on : Setting) → on 6 ≡ true → ¬ Holds (map (termAt e) es) (termAt e i) → ((s : Step) → ¬ FollowsIn on (termAt e) n es s) → ¬ (r ≡ 0)
+      missing-some on o unknown stuck z =
+          stuck (step (repAt e i) 6 unused unused u) (
+            o,
+            Follows.sum u (rep-is-head e n down i low, λ c. unknown (termAt e (repAt e i), Memᴰ·map (termAt e) c, rep-same e n down i low)) (m .drawn)
+                (then (rep-same e n down i low) (by-code (same-code (m .total) ∙ without))),
+          )
         where
           without : code (sumOfSet (termAt e) n u ⊕ sumOfSet (termAt e) n r) ≡ code (sumOfSet (termAt e) n u)
           without =
@@ -244,12 +239,12 @@ module _ (e : ℕ → Entry) (n : ℕ) (down : Downward e n) (es : List ℕ) (hs
 
   -- where no step follows from heads that have the start, every derivable term that is a sum of standard entries is a sum of known terms: so the
   -- remainder holds no highest-numbered entry of any of them, whatever terms the derivation goes through
-  module _ (start : List ℕ) (from : (j : ℕ) → List·Memᴰ j start → List·Memᴰ j es) (stuck : (s : Step) → ¬ Follows (termAt e) n es s) where
-    derivable-leads : (w j : ℕ) → StandardSet e n w → Derivable (map (termAt e) start) (sumOfSet (termAt e) n w)
+  module _ (on : Setting) (start : List ℕ) (from : (j : ℕ) → List·Memᴰ j start → List·Memᴰ j es) (stuck : (s : Step) → ¬ FollowsIn on (termAt e) n es s) where
+    derivable-leads : (w j : ℕ) → StandardSet e n w → Derivable on (map (termAt e) start) (sumOfSet (termAt e) n w)
         → member w j ≡ true → ((h : ℕ) → member w h ≡ true → h ≤ j) → Leads e n es j
     derivable-leads w j standards (g, d, held) inside highest =
         let (js, known, sum) =
-        exactness-sums e n down (λ x. List·Memᴰ (repAt e x) es) (closed e n down es hs stuck) start
+        exactness-sums on e n down (λ x. List·Memᴰ (repAt e x) es) (closed e n down es hs on stuck) start
         (λ x c. (hs x (from x c) .0, Memᴰ·cast (hs x (from x c) .1) (from x c))) g d w held in
         record {
           items = map (repAt e) js;
@@ -261,6 +256,6 @@ module _ (e : ℕ → Entry) (n : ℕ) (down : Downward e n) (es : List ℕ) (hs
           highest = highest;
         }
 
-    pub missing-widest : {u r : ℕ} → Missing e n es i u r → (w j : ℕ) → StandardSet e n w → Derivable (map (termAt e) start) (sumOfSet (termAt e) n w)
+    pub missing-widest : {u r : ℕ} → Missing e n es i u r → (w j : ℕ) → StandardSet e n w → Derivable on (map (termAt e) start) (sumOfSet (termAt e) n w)
         → member w j ≡ true → ((h : ℕ) → member w h ≡ true → h ≤ j) → ¬ (member r j ≡ true)
     missing-widest m w j standards d inside highest h = m .bare j h (derivable-leads w j standards d inside highest)

@@ -1,14 +1,15 @@
 -- The step that the search finds is the next step.
--- Shown: the search finds nothing exactly when nothing follows; what it finds follows, and nothing that follows comes before it; there is
--- only one such step. Assumes nothing.
+-- Shown, for the rules switched on: the search finds nothing exactly when nothing follows; what it finds follows, and nothing that follows comes before
+-- it; there is only one such step. Assumes nothing.
 use mathlib.Core.Path.{_≡_, refl, sym, _∙_, subst}
 use mathlib.Core.Logic.{_↔_, _⊎_, inl, inr}
 use mathlib.Core.List.{List, [], _∷_, _++_, List·Memᴰ, List·Memᴰ·append-cases, List·Memᴰ·eq-of-singleton}
 use Prim.Native.Nat.{ℕ, _≤_, _<_}
 use native.Mathlib.Omega.{arith}
+use Rattle.deduction.specs.Setting.{Setting}
 use Rattle.deduction.specs.Entry.{Entry, termAt, Downward}
 use Rattle.deduction.specs.Standard.{setAt, repAt}
-use Rattle.deduction.specs.Step.{Step, Open, Follows, Before, IsNext}
+use Rattle.deduction.specs.Step.{Step, Open, Follows, FollowsIn, Before, IsNext}
 use Rattle.deduction.specs.Run.{knowledge, noStep, allOffers, isSumOf, nextNumber, expand, nextStep}
 use Rattle.deduction.proofs.Elimination.{learnt-all}
 use Rattle.deduction.proofs.Elimination.State.{Learnt}
@@ -44,10 +45,10 @@ module _ (e : ℕ → Entry) (n : ℕ) (down : Downward e n) (es : List ℕ) (he
   knowledge-learnt = learnt-all (setAt e) n es (λ i m. heads i m .0)
 
   -- "The next rung" is one step
-  pub next-unique : (s r : Step) → IsNext (termAt e) n es s → IsNext (termAt e) n es r → s ≡ r
-  next-unique s r (fs, ls) (fr, lr) =
+  pub next-unique : (on : Setting) (s r : Step) → IsNext on (termAt e) n es s → IsNext on (termAt e) n es r → s ≡ r
+  next-unique on s r (fs, ls) (fr, lr) =
       let (h, q, i) = agree s r (lr s fs) (ls r fr) in
-      follows-expand e n down knowledge-learnt heads fs ∙ (λ t. expand e n (knowledge e es) (h t) (q t) (i t)) ∙ sym (follows-expand e n down knowledge-learnt heads fr)
+      follows-expand e n down knowledge-learnt heads (fs .1) ∙ (λ t. expand e n (knowledge e es) (h t) (q t) (i t)) ∙ sym (follows-expand e n down knowledge-learnt heads (fr .1))
 
   module _ (small : n ≤ 256) where
     follows-small : {s : Step} → Follows (termAt e) n es s → Small s
@@ -76,27 +77,28 @@ module _ (e : ℕ → Entry) (n : ℕ) (down : Downward e n) (es : List ℕ) (he
         source (Follows.adecrypt {i = i} s a o m c q r) = inl (λ x. omega arith, known i m)
         source (Follows.aencrypt {i = i} s a o m c q r) = inl (λ x. omega arith, known i m)
 
-    -- the search's number is at most that of any step that follows
-    next-under : {s : Step} → Follows (termAt e) n es s → nextNumber e n (knowledge e es) ≤ numberOf s
-    unfolding nextNumber
-    next-under {s} f = least-under noStep _ (numberOf s) (follows-offered e n down knowledge-learnt heads f)
+    module _ (on : Setting) where
+      -- the search's number is at most that of any step that follows
+      next-under : {s : Step} → FollowsIn on (termAt e) n es s → nextNumber on e n (knowledge e es) ≤ numberOf s
+      unfolding nextNumber
+      next-under {s} f = least-under noStep _ (numberOf s) (follows-offered e n down knowledge-learnt heads on (f .0) (f .1))
 
-    found-next : (nextNumber e n (knowledge e es) ≡ noStep) ⊎ (Follows (termAt e) n es (nextStep e n es) × (numberOf (nextStep e n es) ≡ nextNumber e n (knowledge e es)))
-    unfolding nextNumber nextStep
-    found-next = go (least-one noStep (allOffers e n (knowledge e es .known) (isSumOf e (knowledge e es)) n))
-      where
-        go : (nextNumber e n (knowledge e es) ≡ noStep) ⊎ List·Memᴰ (nextNumber e n (knowledge e es)) (allOffers e n (knowledge e es .known) (isSumOf e (knowledge e es)) n)
-            → (nextNumber e n (knowledge e es) ≡ noStep) ⊎ (Follows (termAt e) n es (nextStep e n es) × (numberOf (nextStep e n es) ≡ nextNumber e n (knowledge e es)))
-        go (inl p) = inl p
-        go (inr m) = inr (offered-found e n down small knowledge-learnt m)
+      found-next : (nextNumber on e n (knowledge e es) ≡ noStep) ⊎ (FollowsIn on (termAt e) n es (nextStep on e n es) × (numberOf (nextStep on e n es) ≡ nextNumber on e n (knowledge e es)))
+      unfolding nextNumber nextStep
+      found-next = go (least-one noStep (allOffers on e n (knowledge e es .known) (isSumOf e (knowledge e es)) n))
+        where
+          go : (nextNumber on e n (knowledge e es) ≡ noStep) ⊎ List·Memᴰ (nextNumber on e n (knowledge e es)) (allOffers on e n (knowledge e es .known) (isSumOf e (knowledge e es)) n)
+              → (nextNumber on e n (knowledge e es) ≡ noStep) ⊎ (FollowsIn on (termAt e) n es (nextStep on e n es) × (numberOf (nextStep on e n es) ≡ nextNumber on e n (knowledge e es)))
+          go (inl p) = inl p
+          go (inr m) = inr (offered-found on e n down small knowledge-learnt m)
 
-    -- nothing is found exactly when nothing follows
-    pub next-none : (nextNumber e n (knowledge e es) ≡ noStep) ↔ ((s : Step) → ¬ (Follows (termAt e) n es s))
-    next-none = (λ p s f. let b = next-under f in let c = small-below s (follows-small f) in omega arith, λ f. elim found-next [ inl p ↦ p | inr (g, q) ↦ absurd (f (nextStep e n es) g) ])
+      -- nothing is found exactly when nothing follows
+      pub next-none : (nextNumber on e n (knowledge e es) ≡ noStep) ↔ ((s : Step) → ¬ (FollowsIn on (termAt e) n es s))
+      next-none = (λ p s f. let b = next-under f in let c = small-below s (follows-small (f .1)) in omega arith, λ f. elim found-next [ inl p ↦ p | inr (g, q) ↦ absurd (f (nextStep on e n es) g) ])
 
-    -- what is found is the next step
-    pub next-isNext : ¬ (nextNumber e n (knowledge e es) ≡ noStep) → IsNext (termAt e) n es (nextStep e n es)
-    next-isNext some = elim found-next [ inl p ↦ absurd (some p) | inr (g, q) ↦ (g, λ r f b. later r f g q b) ]
-      where
-        later : (r : Step) → Follows (termAt e) n es r → Follows (termAt e) n es (nextStep e n es) → numberOf (nextStep e n es) ≡ nextNumber e n (knowledge e es) → ¬ (Before r (nextStep e n es))
-        later r f g q b = let u = next-under f in let v = before-number r (nextStep e n es) (follows-small f) (follows-small g) b in omega arith
+      -- what is found is the next step
+      pub next-isNext : ¬ (nextNumber on e n (knowledge e es) ≡ noStep) → IsNext on (termAt e) n es (nextStep on e n es)
+      next-isNext some = elim found-next [ inl p ↦ absurd (some p) | inr (g, q) ↦ (g, λ r f b. later r f g q b) ]
+        where
+          later : (r : Step) → FollowsIn on (termAt e) n es r → FollowsIn on (termAt e) n es (nextStep on e n es) → numberOf (nextStep on e n es) ≡ nextNumber on e n (knowledge e es) → ¬ (Before r (nextStep on e n es))
+          later r f g q b = let u = next-under f in let v = before-number r (nextStep on e n es) (follows-small (f .1)) (follows-small (g .1)) b in omega arith

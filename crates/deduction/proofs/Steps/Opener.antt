@@ -12,6 +12,7 @@ use native.Mathlib.Omega.{arith}
 use lib.Dec.{eqb}
 use borrow.Author.Tests.{eqb-true, eq-eqb}
 use Rattle.deduction.specs.Term.{Side, private, public, opposite, Term, half, aenc, _≈_, flip, then}
+use Rattle.deduction.specs.Setting.{Setting}
 use Rattle.deduction.specs.Entry.{Entry, Zero, Atom, Pair, Enc, Sum, Half, Aenc, termAt, Downward}
 use Rattle.deduction.specs.Standard.{halfKind, repAt}
 use Rattle.deduction.specs.Run.{isHalf, opener, anyHalf}
@@ -104,10 +105,10 @@ module _ (e : ℕ → Entry) (n : ℕ) (down : Downward e n) where
       go (Aenc m k) p l = absurd (lt-irrefl n l)
 
   -- "An opposite half without an entry can't be gained": a half that no record of an entry is can't be derived from any start of entries
-  pub half-unwritten : (start : List ℕ) → ((i : ℕ) → List·Memᴰ i start → i < n) → (s : Side) (a : ℕ) → ((i : ℕ) → i < n → ¬ (e i ≡ Half s a))
-      → ¬ Derivable (map (termAt e) start) (half s a)
-  half-unwritten start low s a none =
-      half-not-gained e n down start low s a
+  pub half-unwritten : (on : Setting) (start : List ℕ) → ((i : ℕ) → List·Memᴰ i start → i < n) → (s : Side) (a : ℕ) → ((i : ℕ) → i < n → ¬ (e i ≡ Half s a))
+      → ¬ Derivable on (map (termAt e) start) (half s a)
+  half-unwritten on start low s a none =
+      half-not-gained on e n down start low s a
       (λ i l q. none (repAt e i) (rep-below e n down i l) (half-record e n down (repAt e i) s a (rep-below e n down i l) (rep-rep e i) (then (rep-same e n down i l) q)))
 
   module _ (halved : Halved e n) where

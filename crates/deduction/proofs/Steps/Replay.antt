@@ -9,9 +9,10 @@ use mathlib.Core.List.{List, [], _∷_, _++_, map, List·Memᴰ, List·Memᴰ·h
 use Prim.Native.Nat.{ℕ, zero, suc, _<_}
 use Rattle.bitset.specs.Set.{member}
 use Rattle.deduction.specs.Term.{Term, _⊕_, sumOf, _≈_, in-aenc, same, flip, then}
+use Rattle.deduction.specs.Setting.{Setting}
 use Rattle.deduction.specs.Derivation.{Holds, Derivation, Derivable}
 use Rattle.deduction.specs.Standard.{sumOfSet}
-use Rattle.deduction.specs.Step.{Step, Drawn, Follows}
+use Rattle.deduction.specs.Step.{Step, Drawn, Follows, Allowed}
 use Rattle.deduction.specs.Replay.{Used, Right, Replays, done, next}
 use Rattle.deduction.proofs.Steps.InOrder.{Made}
 use Rattle.deduction.proofs.Steps.Held.{Keeps, Alike, held-same, held-newest, held-older, keeps-newest}
@@ -79,10 +80,10 @@ module _ (t : ℕ → Term) where
       from i (inr m) = let (s, c, p) = Memᴰ·of-map (λ (r : Step). r .head) ss m in subst (λ (j : ℕ). Holds (endState t (map t es) ss) (t j)) p (end-new (map t es) ss s c)
 
   module _ (n : ℕ) where
-    pub replays-end : {g a : List Term} {ss : List Step} → Replays t n g ss a → a ≡ endState t g ss
+    pub replays-end : {on : Setting} {g a : List Term} {ss : List Step} → Replays on t n g ss a → a ≡ endState t g ss
     unfolding endState
     replays-end done = refl
-    replays-end (next r rs) = replays-end rs
+    replays-end (next w r rs) = replays-end rs
 
     -- a step that is right stays right at a state that holds as much
     used-kept : {g h : List Term} → Keeps g h → (i : ℕ) → Used t n g i → Used t n h i
@@ -98,35 +99,35 @@ module _ (t : ℕ → Term) where
     right-kept f (Right.adecrypt {i = i} {j = j} s a l p c q r) = Right.adecrypt s a l (used-kept f i p) (used-kept f j c) q r
     right-kept f (Right.aencrypt {i = i} {j = j} s a l p c q r) = Right.aencrypt s a l (used-kept f i p) (used-kept f j c) q r
 
-    pub replays-kept : {g h a : List Term} {ss : List Step} → Keeps g h → Replays t n g ss a → Replays t n h ss (endState t h ss)
+    pub replays-kept : {on : Setting} {g h a : List Term} {ss : List Step} → Keeps g h → Replays on t n g ss a → Replays on t n h ss (endState t h ss)
     unfolding endState
     replays-kept f done = done
-    replays-kept f (next {s = s} r rs) = next (right-kept f r) (replays-kept (keeps-newest (t (s .head)) (t (s .head)) same f) rs)
+    replays-kept f (next {s = s} w r rs) = next w (right-kept f r) (replays-kept (keeps-newest (t (s .head)) (t (s .head)) same f) rs)
 
     -- a right step extends a derivation that holds the state
-    right-derives : {start d g : List Term} {s : Step} → Derivation start d → Keeps g d → Right t n g s → (a : Term) × Derivation start (a ∷ d) × (a ≈ t (s .head))
-    right-derives {s} d f (Right.first b l p q) = (_, Derivation.first d (held-same (f _ (p .1)) q), same)
-    right-derives d f (Right.second a l p q) = (_, Derivation.second d (held-same (f _ (p .1)) q), same)
-    right-derives d f (Right.decrypt l p c q) = (_, Derivation.decrypt d (held-same (f _ (p .1)) q) (f _ (c .1)), same)
-    right-derives d f (Right.join l p c q) = (_, Derivation.join d (f _ (p .1)) (f _ (c .1)), flip q)
-    right-derives d f (Right.encrypt l p c q) = (_, Derivation.encrypt d (f _ (p .1)) (f _ (c .1)), flip q)
-    right-derives {d = held} d f (Right.sum {h = h} {u = u} l p q) =
+    right-derives : {on : Setting} {start d g : List Term} {s : Step} → Derivation on start d → Keeps g d → Allowed on s → Right t n g s → (a : Term) × Derivation on start (a ∷ d) × (a ≈ t (s .head))
+    right-derives d f w (Right.first b l p q) = (_, Derivation.first w d (held-same (f _ (p .1)) q), same)
+    right-derives d f w (Right.second a l p q) = (_, Derivation.second w d (held-same (f _ (p .1)) q), same)
+    right-derives d f w (Right.decrypt l p c q) = (_, Derivation.decrypt w d (held-same (f _ (p .1)) q) (f _ (c .1)), same)
+    right-derives d f w (Right.join l p c q) = (_, Derivation.join w d (f _ (p .1)) (f _ (c .1)), flip q)
+    right-derives d f w (Right.encrypt l p c q) = (_, Derivation.encrypt w d (f _ (p .1)) (f _ (c .1)), flip q)
+    right-derives {d = held} d f w (Right.sum {h = h} {u = u} l p q) =
         let (ts, k, r) = set-list t (Holds held) n u (λ j m. f (t j) (p j m .1)) in
-        (sumOf ts, Derivation.sum ts d k, subst (λ (x : Term). x ≈ t h) (sym r) (flip q))
-    right-derives d f (Right.adecrypt s a l p c q r) = (_, Derivation.adecrypt d (held-same (f _ (p .1)) q) (held-same (f _ (c .1)) r), same)
-    right-derives d f (Right.aencrypt s a l p c q r) = (_, Derivation.aencrypt d (f _ (p .1)) (held-same (f _ (c .1)) r), then (in-aenc same (flip r)) (flip q))
+        (sumOf ts, Derivation.sum ts w d k, subst (λ (x : Term). x ≈ t h) (sym r) (flip q))
+    right-derives d f w (Right.adecrypt s a l p c q r) = (_, Derivation.adecrypt w d (held-same (f _ (p .1)) q) (held-same (f _ (c .1)) r), same)
+    right-derives d f w (Right.aencrypt s a l p c q r) = (_, Derivation.aencrypt w d (f _ (p .1)) (held-same (f _ (c .1)) r), then (in-aenc same (flip r)) (flip q))
 
-    replay-extends : {start d g a : List Term} {ss : List Step} → Derivation start d → Alike d g → Replays t n g ss a → (b : List Term) × Derivation start b × Alike b a
+    replay-extends : {on : Setting} {start d g a : List Term} {ss : List Step} → Derivation on start d → Alike d g → Replays on t n g ss a → (b : List Term) × Derivation on start b × Alike b a
     replay-extends {d = held} d f done = (held, d, f)
-    replay-extends d f (next {s = s} r rs) =
-        let (a, c, q) = right-derives d (λ u. f u .1) r in
+    replay-extends d f (next {s = s} w r rs) =
+        let (a, c, q) = right-derives d (λ u. f u .1) w r in
         replay-extends c (λ u. (keeps-newest a (t (s .head)) q (λ v. f v .0) u, keeps-newest (t (s .head)) a (flip q) (λ v. f v .1) u)) rs
 
     -- a replay that passes is a derivation
-    pub replay-derivation : {start a : List Term} {ss : List Step} → Replays t n start ss a → (g : List Term) × Derivation start g × Alike g a
+    pub replay-derivation : {on : Setting} {start a : List Term} {ss : List Step} → Replays on t n start ss a → (g : List Term) × Derivation on start g × Alike g a
     replay-derivation r = replay-extends Derivation.begin (λ u. (λ h. h, λ h. h)) r
 
-    pub replay-derivable : {start a : List Term} {ss : List Step} → Replays t n start ss a → (u : Term) → Holds a u → Derivable start u
+    pub replay-derivable : {on : Setting} {start a : List Term} {ss : List Step} → Replays on t n start ss a → (u : Term) → Holds a u → Derivable on start u
     replay-derivable r u h = let (g, d, f) = replay-derivation r in (g, d, f u .1 h)
 
     -- steps in a row that follow replay from any state that holds the terms of the known entries
@@ -143,13 +144,13 @@ module _ (t : ℕ → Term) where
     follows-right f (Follows.adecrypt {i = i} {j = j} s a o m c q r) = (Right.adecrypt s a (o .0 .0) (f i m) (f j c) q r, o .0 .0)
     follows-right f (Follows.aencrypt {i = i} {j = j} s a o m c q r) = (Right.aencrypt s a (o .0 .0) (f i m) (f j c) q r, o .0 .0)
 
-    pub made-replays-from : {es : List ℕ} {ss : List Step} (g : List Term) → ((i : ℕ) → List·Memᴰ i es → Used t n g i) → Made t n es ss → Replays t n g ss (endState t g ss)
+    pub made-replays-from : {on : Setting} {es : List ℕ} {ss : List Step} (g : List Term) → ((i : ℕ) → List·Memᴰ i es → Used t n g i) → Made on t n es ss → Replays on t n g ss (endState t g ss)
     unfolding endState
     made-replays-from g f Made.none = done
-    made-replays-from {es} g f (Made.more {s = s} x xs) = next (r .0) (made-replays-from (t (s .head) ∷ g) more xs)
+    made-replays-from {es = es} g f (Made.more {s = s} x xs) = next (x .0 .0) (r .0) (made-replays-from (t (s .head) ∷ g) more xs)
       where
         r : Right t n g s × (s .head < n)
-        r = follows-right f (x .0)
+        r = follows-right f (x .0 .1)
 
         more : (i : ℕ) → List·Memᴰ i (es ++ (s .head ∷ [])) → Used t n (t (s .head) ∷ g) i
         more i m =

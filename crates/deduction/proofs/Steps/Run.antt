@@ -14,6 +14,7 @@ use lib.ListN.{length}
 use borrow.Author.Tests.{eqb-true, eqb-false, not-true}
 use Rattle.bitset.specs.Set.{member, insert}
 use Rattle.bitset.proofs.Laws.Sums.{ones-insert}
+use Rattle.deduction.specs.Setting.{Setting}
 use Rattle.deduction.specs.Entry.{Entry, termAt, Downward}
 use Rattle.deduction.specs.Standard.{setAt, repAt}
 use Rattle.deduction.specs.Elimination.{Row, Knowledge, learnAs, nothing}
@@ -47,22 +48,22 @@ verdict-exhausted false true p = let z : _≡_ {A = ℕ} 0 1 = cc in absurd (ome
 verdict-exhausted false false p = (refl, refl)
 
 -- and so of the last state
-module _ (e : ℕ → Entry) (n goal : ℕ) (es : List ℕ) where
-  pub ended-derivable : ended e n goal es .verdict ≡ derivable → member (knowledge e es .known) (repAt e goal) ≡ true
+module _ (on : Setting) (e : ℕ → Entry) (n goal : ℕ) (es : List ℕ) where
+  pub ended-derivable : ended on e n goal es .verdict ≡ derivable → member (knowledge e es .known) (repAt e goal) ≡ true
   unfolding ended reached
-  ended-derivable p = verdict-derivable (reached e goal (knowledge e es)) (eqb (nextNumber e n (knowledge e es)) noStep) p
+  ended-derivable p = verdict-derivable (reached e goal (knowledge e es)) (eqb (nextNumber on e n (knowledge e es)) noStep) p
 
-  pub ended-underivable : ended e n goal es .verdict ≡ underivable → (member (knowledge e es .known) (repAt e goal) ≡ false) × (nextNumber e n (knowledge e es) ≡ noStep)
+  pub ended-underivable : ended on e n goal es .verdict ≡ underivable → (member (knowledge e es .known) (repAt e goal) ≡ false) × (nextNumber on e n (knowledge e es) ≡ noStep)
   unfolding ended reached
   ended-underivable p =
-      let q = verdict-underivable (reached e goal (knowledge e es)) (eqb (nextNumber e n (knowledge e es)) noStep) p in
-      (q .0, eqb-true (nextNumber e n (knowledge e es)) noStep (q .1))
+      let q = verdict-underivable (reached e goal (knowledge e es)) (eqb (nextNumber on e n (knowledge e es)) noStep) p in
+      (q .0, eqb-true (nextNumber on e n (knowledge e es)) noStep (q .1))
 
-  pub ended-exhausted : ended e n goal es .verdict ≡ exhausted → (member (knowledge e es .known) (repAt e goal) ≡ false) × (¬ (nextNumber e n (knowledge e es) ≡ noStep))
+  pub ended-exhausted : ended on e n goal es .verdict ≡ exhausted → (member (knowledge e es .known) (repAt e goal) ≡ false) × (¬ (nextNumber on e n (knowledge e es) ≡ noStep))
   unfolding ended reached
   ended-exhausted p =
-      let q = verdict-exhausted (reached e goal (knowledge e es)) (eqb (nextNumber e n (knowledge e es)) noStep) p in
-      (q .0, eqb-false (nextNumber e n (knowledge e es)) noStep (q .1))
+      let q = verdict-exhausted (reached e goal (knowledge e es)) (eqb (nextNumber on e n (knowledge e es)) noStep) p in
+      (q .0, eqb-false (nextNumber on e n (knowledge e es)) noStep (q .1))
 
 -- one more head, and the known set
 learn-new : (k : Knowledge) (h v : ℕ) → member (k .known) h ≡ false → learnAs k h v .known ≡ insert (k .known) h
@@ -87,19 +88,21 @@ module _ (e : ℕ → Entry) (n : ℕ) (down : Downward e n) where
   pub count-le : (es : List ℕ) → Heads e n es → ones (knowledge e es .known) ≤ n
   count-le es hs = ones-le n (knowledge e es .known) (known-below (knowledge-learnt e n down es hs))
 
+-- The rules that are switched on are those of `on`
+module _ (on : Setting) (e : ℕ → Entry) (n : ℕ) (down : Downward e n) where
   -- the outcome o of a run with budget b from the heads es
   pub record Ran (goal b : ℕ) (es : List ℕ) (o : Outcome) : Type 0 where
-    pub made : Made (termAt e) n es (o .steps)
+    pub made : Made on (termAt e) n es (o .steps)
     pub learnt : o .learnt ≡ es ++ heads (o .steps)
     pub all-heads : Heads e n (o .learnt)
     pub budget : length (o .steps) ≤ b
-    pub verdict : o .verdict ≡ ended e n goal (o .learnt) .verdict
+    pub verdict : o .verdict ≡ ended on e n goal (o .learnt) .verdict
     pub stopped : o .verdict ≡ exhausted → length (o .steps) ≡ b
     pub count : ones (knowledge e es .known) + length (o .steps) ≡ ones (knowledge e (o .learnt) .known)
 
   module _ (goal : ℕ) where
     -- no step more
-    ran-ended : (b : ℕ) (es : List ℕ) → Heads e n es → (b ≡ 0) ⊎ (goesOn e n goal es ≡ false) → Ran goal b es (ended e n goal es)
+    ran-ended : (b : ℕ) (es : List ℕ) → Heads e n es → (b ≡ 0) ⊎ (goesOn on e n goal es ≡ false) → Ran goal b es (ended on e n goal es)
     unfolding ended goesOn
     ran-ended b es hs w =
         record {
@@ -108,16 +111,16 @@ module _ (e : ℕ → Entry) (n : ℕ) (down : Downward e n) where
           all-heads = hs;
           budget = omega arith;
           verdict = refl;
-          stopped = λ p. go w (verdict-exhausted (reached e goal (knowledge e es)) (eqb (nextNumber e n (knowledge e es)) noStep) p);
+          stopped = λ p. go w (verdict-exhausted (reached e goal (knowledge e es)) (eqb (nextNumber on e n (knowledge e es)) noStep) p);
           count = omega arith;
         }
       where
-        go : (b ≡ 0) ⊎ (goesOn e n goal es ≡ false) → (reached e goal (knowledge e es) ≡ false) × (eqb (nextNumber e n (knowledge e es)) noStep ≡ false) → 0 ≡ b
+        go : (b ≡ 0) ⊎ (goesOn on e n goal es ≡ false) → (reached e goal (knowledge e es) ≡ false) × (eqb (nextNumber on e n (knowledge e es)) noStep ≡ false) → 0 ≡ b
         go (inl p) q = sym p
         go (inr p) (q, r) = absurd (true≢false (sym (ap₂ (λ (x y : Bool). not x && not y) q r) ∙ p))
 
     -- one step more
-    ran-after : (b : ℕ) (es : List ℕ) (s : Step) (o : Outcome) → Heads e n es → IsNext (termAt e) n es s → Ran goal b (es ++ (s .head ∷ [])) o → Ran goal (suc b) es (after s o)
+    ran-after : (b : ℕ) (es : List ℕ) (s : Step) (o : Outcome) → Heads e n es → IsNext on (termAt e) n es s → Ran goal b (es ++ (s .head ∷ [])) o → Ran goal (suc b) es (after s o)
     unfolding after
     ran-after b es s o hs f r =
         record {
@@ -127,22 +130,22 @@ module _ (e : ℕ → Entry) (n : ℕ) (down : Downward e n) where
           budget = let l = r .budget in omega arith;
           verdict = r .verdict;
           stopped = λ p. ap suc (r .stopped p);
-          count = let c = r .count in omega (arith, count-more es s hs (f .0));
+          count = let c = r .count in omega (arith, count-more e n down es s hs (f .0 .1));
         }
 
     module _ (small : n ≤ 256) where
-      pub ran : (b : ℕ) (es : List ℕ) → Heads e n es → Ran goal b es (run e n goal b es)
+      pub ran : (b : ℕ) (es : List ℕ) → Heads e n es → Ran goal b es (run on e n goal b es)
       unfolding run goesOn
       ran zero es hs = ran-ended zero es hs (inl refl)
-      ran (suc b) es hs = go (goesOn e n goal es) refl (λ l. ran b (es ++ (nextStep e n es .head ∷ [])) l)
+      ran (suc b) es hs = go (goesOn on e n goal es) refl (λ l. ran b (es ++ (nextStep on e n es .head ∷ [])) l)
         where
-          go : (c : Bool) → goesOn e n goal es ≡ c → (Heads e n (es ++ (nextStep e n es .head ∷ [])) → Ran goal b (es ++ (nextStep e n es .head ∷ [])) (run e n goal b (es ++ (nextStep e n es .head ∷ []))))
-              → Ran goal (suc b) es (elim c as (λ x. Outcome) [ true ↦ after (nextStep e n es) (run e n goal b (es ++ (nextStep e n es .head ∷ []))) | false ↦ ended e n goal es ])
-          go true p ih = ran-after b es (nextStep e n es) _ hs next (ih (heads-more e n down es (nextStep e n es) hs (next .0)))
+          go : (c : Bool) → goesOn on e n goal es ≡ c → (Heads e n (es ++ (nextStep on e n es .head ∷ [])) → Ran goal b (es ++ (nextStep on e n es .head ∷ [])) (run on e n goal b (es ++ (nextStep on e n es .head ∷ []))))
+              → Ran goal (suc b) es (elim c as (λ x. Outcome) [ true ↦ after (nextStep on e n es) (run on e n goal b (es ++ (nextStep on e n es .head ∷ []))) | false ↦ ended on e n goal es ])
+          go true p ih = ran-after b es (nextStep on e n es) _ hs next (ih (heads-more e n down es (nextStep on e n es) hs (next .0 .1)))
             where
-              next : IsNext (termAt e) n es (nextStep e n es)
+              next : IsNext on (termAt e) n es (nextStep on e n es)
               next =
-                  next-isNext e n down es hs small
-                  (eqb-false (nextNumber e n (knowledge e es)) noStep
-                  (not-true _ (both-true (not (reached e goal (knowledge e es))) (not (eqb (nextNumber e n (knowledge e es)) noStep)) p .1)))
+                  next-isNext e n down es hs small on
+                  (eqb-false (nextNumber on e n (knowledge e es)) noStep
+                  (not-true _ (both-true (not (reached e goal (knowledge e es))) (not (eqb (nextNumber on e n (knowledge e es)) noStep)) p .1)))
           go false p ih = ran-ended (suc b) es hs (inr p)

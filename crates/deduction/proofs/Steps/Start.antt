@@ -6,6 +6,7 @@ use mathlib.Core.Logic.{_↔_}
 use mathlib.Core.List.{List, map, List·Memᴰ, Memᴰ·map, Memᴰ·of-map}
 use Prim.Native.Nat.{ℕ, _<_}
 use Rattle.deduction.specs.Term.{Term, _≈_, flip, then}
+use Rattle.deduction.specs.Setting.{Setting}
 use Rattle.deduction.specs.Entry.{Entry, termAt, Downward}
 use Rattle.deduction.specs.Standard.{repAt}
 use Rattle.deduction.specs.Derivation.{Derivable}
@@ -34,12 +35,12 @@ module _ (e : ℕ → Entry) (n : ℕ) (down : Downward e n) (trace : List ℕ) 
   pub trace-alike : Alike (map (termAt e) trace) (map (termAt e) (map (repAt e) trace))
   trace-alike u = (to-heads u, from-heads u)
 
-  pub trace-derivable : (u : Term) → Derivable (map (termAt e) trace) u ↔ Derivable (map (termAt e) (map (repAt e) trace)) u
+  pub trace-derivable : {on : Setting} (u : Term) → Derivable on (map (termAt e) trace) u ↔ Derivable on (map (termAt e) (map (repAt e) trace)) u
   trace-derivable u = (derivable-kept to-heads u, derivable-kept from-heads u)
 
   module _ (ss : List Step) where
-    pub trace-replays : Replays (termAt e) n (map (termAt e) trace) ss (endState (termAt e) (map (termAt e) trace) ss)
-        ↔ Replays (termAt e) n (map (termAt e) (map (repAt e) trace)) ss (endState (termAt e) (map (termAt e) (map (repAt e) trace)) ss)
+    pub trace-replays : {on : Setting} → Replays on (termAt e) n (map (termAt e) trace) ss (endState (termAt e) (map (termAt e) trace) ss)
+        ↔ Replays on (termAt e) n (map (termAt e) (map (repAt e) trace)) ss (endState (termAt e) (map (termAt e) (map (repAt e) trace)) ss)
     trace-replays = (replays-kept (termAt e) n to-heads, replays-kept (termAt e) n from-heads)
 
     pub trace-end : Alike (endState (termAt e) (map (termAt e) trace) ss) (endState (termAt e) (map (termAt e) (map (repAt e) trace)) ss)

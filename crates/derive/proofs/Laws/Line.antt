@@ -11,11 +11,12 @@ use lib.ListN.{getD}
 use borrow.Author.Tests.{eq-eqb, ne-eqb, lt-ltb, le-ltb}
 use Rattle.bitset.specs.Set.{member}
 use Rattle.bitset.specs.Words.{value}
+use Rattle.deduction.specs.Setting.{Setting}
 use Rattle.deduction.specs.Elimination.{Row, reduce}
 use Rattle.deduction.specs.Step.{step, unused}
-use Rattle.deduction.specs.Run.{number, noStep}
+use Rattle.deduction.specs.Run.{noStep}
 use Rattle.canonical.specs.Inner.Key.{keyKind, keyLeft, keyRight, keyOpener}
-use Rattle.derive.specs.Inner.Search.{offered, openedLeast, bothKnown, builtLeast, lockLeast, lineLeast, searchLeast, secondIn, lineStep}
+use Rattle.derive.specs.Inner.Search.{nothingLeft, summedLeast, gainedLeast, offered, openedLeast, bothKnown, builtLeast, lockLeast, lineLeast, searchLeast, secondIn, lineStep}
 
 -- a member test of a part that was read off a key
 pub part-test : {l p : ℕ} {b t : Bool} (g : ℕ) → l ≡ p → b ≡ member g l → b ≡ t → member g p ≡ t
@@ -26,27 +27,27 @@ abbrev pub NotBuilt : ℕ → ℕ → ℕ → Type 0
 NotBuilt g key n = (eqb (keyKind key) n && bothKnown g key) ≡ false
 
 -- a line whose key has kind k
-module _ (g key i : ℕ) {k : ℕ} (said : k ≡ keyKind key) where
+module _ (on : Setting) (g key i : ℕ) {k : ℕ} (said : k ≡ keyKind key) where
   kind-is : (n : ℕ) → k ≡ n → eqb (keyKind key) n ≡ true
   kind-is n p = eq-eqb (keyKind key) n (sym said ∙ p)
 
   kind-not : (n : ℕ) → ¬ (k ≡ n) → eqb (keyKind key) n ≡ false
   kind-not n f = ne-eqb (keyKind key) n (λ p. f (said ∙ p))
 
-  pub opened-pair : {l r a b x : ℕ} → k ≡ 2 → l ≡ keyLeft key → a ≡ offered g l 1 i → r ≡ keyRight key → b ≡ offered g r 2 i → x ≡ min a b → x ≡ openedLeast g key i
+  pub opened-pair : {l r a b x : ℕ} → k ≡ 2 → l ≡ keyLeft key → a ≡ offered on g l 1 i → r ≡ keyRight key → b ≡ offered on g r 2 i → x ≡ min a b → x ≡ openedLeast on g key i
   unfolding openedLeast
   opened-pair p pl qa pr qb q =
-      rw (kind-is 2 p) (q ∙ ap₂ min (qa ∙ ap (λ (h : ℕ). offered g h 1 i) pl) (qb ∙ ap (λ (h : ℕ). offered g h 2 i) pr))
+      rw (kind-is 2 p) (q ∙ ap₂ min (qa ∙ ap (λ (h : ℕ). offered on g h 1 i) pl) (qb ∙ ap (λ (h : ℕ). offered on g h 2 i) pr))
 
-  pub opened-enc : {l x : ℕ} → ¬ (k ≡ 2) → k ≡ 3 → member g (keyRight key) ≡ true → l ≡ keyLeft key → x ≡ offered g l 3 i → x ≡ openedLeast g key i
+  pub opened-enc : {l x : ℕ} → ¬ (k ≡ 2) → k ≡ 3 → member g (keyRight key) ≡ true → l ≡ keyLeft key → x ≡ offered on g l 3 i → x ≡ openedLeast on g key i
   unfolding openedLeast
-  opened-enc f p m pl q = rw (kind-not 2 f, kind-is 3 p, m) (q ∙ ap (λ (h : ℕ). offered g h 3 i) pl)
+  opened-enc f p m pl q = rw (kind-not 2 f, kind-is 3 p, m) (q ∙ ap (λ (h : ℕ). offered on g h 3 i) pl)
 
-  pub opened-shut : ¬ (k ≡ 2) → k ≡ 3 → member g (keyRight key) ≡ false → noStep ≡ openedLeast g key i
+  pub opened-shut : ¬ (k ≡ 2) → k ≡ 3 → member g (keyRight key) ≡ false → noStep ≡ openedLeast on g key i
   unfolding openedLeast
   opened-shut f p m = rw (kind-not 2 f, kind-is 3 p, m)
 
-  pub opened-none : ¬ (k ≡ 2) → ¬ (k ≡ 3) → noStep ≡ openedLeast g key i
+  pub opened-none : ¬ (k ≡ 2) → ¬ (k ≡ 3) → noStep ≡ openedLeast on g key i
   unfolding openedLeast
   opened-none f f′ = rw (kind-not 2 f, kind-not 3 f′)
 
@@ -61,56 +62,47 @@ module _ (g key i : ℕ) {k : ℕ} (said : k ≡ keyKind key) where
   kind-other n f = rw (kind-not n f)
 
   module _ (isSum : Bool) where
-    pub built-pair : {b : Bool} {l x : ℕ} → k ≡ 2 → b ≡ bothKnown g key → b ≡ true → l ≡ keyLeft key → x ≡ number i 4 l → x ≡ builtLeast g key i isSum
+    pub built-pair : {b : Bool} {l x : ℕ} → k ≡ 2 → b ≡ bothKnown g key → b ≡ true → l ≡ keyLeft key → x ≡ gainedLeast on i 4 l isSum → x ≡ builtLeast on g key i isSum
     unfolding builtLeast
-    built-pair p qb t pl q = rw (kind-is 2 p, sym qb ∙ t) (q ∙ ap (number i 4) pl)
+    built-pair p qb t pl q = rw (kind-is 2 p, sym qb ∙ t) (q ∙ ap (λ (l : ℕ). gainedLeast on i 4 l isSum) pl)
 
-    pub built-enc : {b : Bool} {l x : ℕ} → NotBuilt g key 2 → k ≡ 3 → b ≡ bothKnown g key → b ≡ true → l ≡ keyLeft key → x ≡ number i 5 l → x ≡ builtLeast g key i isSum
+    pub built-enc : {b : Bool} {l x : ℕ} → NotBuilt g key 2 → k ≡ 3 → b ≡ bothKnown g key → b ≡ true → l ≡ keyLeft key → x ≡ gainedLeast on i 5 l isSum → x ≡ builtLeast on g key i isSum
     unfolding builtLeast
-    built-enc f p qb t pl q = rw (f, kind-is 3 p, sym qb ∙ t) (q ∙ ap (number i 5) pl)
+    built-enc f p qb t pl q = rw (f, kind-is 3 p, sym qb ∙ t) (q ∙ ap (λ (l : ℕ). gainedLeast on i 5 l isSum) pl)
 
-    pub built-sum : {x : ℕ} → NotBuilt g key 2 → NotBuilt g key 3 → isSum ≡ true → x ≡ number i 6 0 → x ≡ builtLeast g key i isSum
+    pub built-sum : {x : ℕ} → NotBuilt g key 2 → NotBuilt g key 3 → x ≡ summedLeast on i isSum → x ≡ builtLeast on g key i isSum
     unfolding builtLeast
-    built-sum f f′ p q = rw (f, f′, p) q
-
-    pub built-none : NotBuilt g key 2 → NotBuilt g key 3 → isSum ≡ false → noStep ≡ builtLeast g key i isSum
-    unfolding builtLeast
-    built-none f f′ p = rw (f, f′, p)
+    built-sum f f′ q = rw (f, f′) q
 
 -- what a lock offers
-module _ (g key i : ℕ) (isSum : Bool) where
-  pub lock-known : {l r x : ℕ} {b t : Bool} → t ≡ member g i → t ≡ true → r ≡ keyOpener key → b ≡ member g r → l ≡ keyLeft key → x ≡ cond b (offered g l 7 i) noStep
-      → x ≡ lockLeast g key i isSum
+module _ (on : Setting) (g key i : ℕ) (isSum : Bool) where
+  pub lock-known : {l r x : ℕ} {b t : Bool} → t ≡ member g i → t ≡ true → r ≡ keyOpener key → b ≡ member g r → l ≡ keyLeft key → x ≡ cond b (offered on g l 7 i) noStep
+      → x ≡ lockLeast on g key i isSum
   unfolding lockLeast
-  lock-known q t pr m pl p = rw (sym q ∙ t) (p ∙ ap₂ (λ (b : Bool) (h : ℕ). cond b (offered g h 7 i) noStep) (m ∙ ap (member g) pr) pl)
+  lock-known q t pr m pl p = rw (sym q ∙ t) (p ∙ ap₂ (λ (b : Bool) (h : ℕ). cond b (offered on g h 7 i) noStep) (m ∙ ap (member g) pr) pl)
 
-  pub lock-sum : {x : ℕ} {t : Bool} → t ≡ member g i → t ≡ false → isSum ≡ true → x ≡ number i 6 0 → x ≡ lockLeast g key i isSum
+  pub lock-made : {l x : ℕ} {b t : Bool} → t ≡ member g i → t ≡ false → b ≡ bothKnown g key → b ≡ true → l ≡ keyLeft key → x ≡ gainedLeast on i 8 l isSum → x ≡ lockLeast on g key i isSum
   unfolding lockLeast
-  lock-sum q t s p = rw (sym q ∙ t, s) p
+  lock-made q t qb f pl p = rw (sym q ∙ t, sym qb ∙ f) (p ∙ ap (λ (l : ℕ). gainedLeast on i 8 l isSum) pl)
 
-  pub lock-made : {l x : ℕ} {b t : Bool} → t ≡ member g i → t ≡ false → isSum ≡ false → b ≡ bothKnown g key → b ≡ true → l ≡ keyLeft key → x ≡ number i 8 l → x ≡ lockLeast g key i isSum
+  pub lock-sum : {x : ℕ} {b t : Bool} → t ≡ member g i → t ≡ false → b ≡ bothKnown g key → b ≡ false → x ≡ summedLeast on i isSum → x ≡ lockLeast on g key i isSum
   unfolding lockLeast
-  lock-made q t s qb f pl p = rw (sym q ∙ t, s, sym qb ∙ f) (p ∙ ap (number i 8) pl)
-
-  pub lock-none : {b t : Bool} → t ≡ member g i → t ≡ false → isSum ≡ false → b ≡ bothKnown g key → b ≡ false → noStep ≡ lockLeast g key i isSum
-  unfolding lockLeast
-  lock-none q t s qb f = rw (sym q ∙ t, s, sym qb ∙ f)
+  lock-sum q t qb f p = rw (sym q ∙ t, sym qb ∙ f) p
 
 -- a line more in the search
-module _ (g : ℕ) (keys reps : List ℕ) (remainders : List (List ℕ)) where
-  pub search-le : (n : ℕ) → searchLeast g keys reps remainders n ≤ noStep
+module _ (on : Setting) (g : ℕ) (keys reps : List ℕ) (remainders : List (List ℕ)) where
+  pub search-le : (n : ℕ) → searchLeast on g keys reps remainders n ≤ noStep
   unfolding searchLeast
   search-le zero = omega arith
   search-le (suc n) = omega (arith, search-le n)
 
-  module _ (i : ℕ) {best : ℕ} (before : best ≡ searchLeast g keys reps remainders i) where
-    pub search-line : {isSum : Bool} {x b : ℕ} → getD reps i 0 ≡ i → isSum ≡ eqb (value (getD remainders i [])) 0 → x ≡ lineLeast g (getD keys i 0) i isSum
-        → b ≡ min best x → b ≡ searchLeast g keys reps remainders (i + 1)
+  module _ (i : ℕ) {best : ℕ} (before : best ≡ searchLeast on g keys reps remainders i) where
+    pub search-line : {x b : ℕ} → getD reps i 0 ≡ i → x ≡ lineLeast on g (getD keys i 0) i (nothingLeft remainders i) → b ≡ min best x
+        → b ≡ searchLeast on g keys reps remainders (i + 1)
     unfolding searchLeast
-    search-line p s q r =
-        rw (add-one i, eq-eqb (getD reps i 0) i p) (r ∙ ap₂ min before (q ∙ ap (lineLeast g (getD keys i 0) i) s))
+    search-line p q r = rw (add-one i, eq-eqb (getD reps i 0) i p) (r ∙ ap₂ min before q)
 
-    pub search-skip : ¬ (getD reps i 0 ≡ i) → best ≡ searchLeast g keys reps remainders (i + 1)
+    pub search-skip : ¬ (getD reps i 0 ≡ i) → best ≡ searchLeast on g keys reps remainders (i + 1)
     unfolding searchLeast
     search-skip f = rw (add-one i, ne-eqb (getD reps i 0) i f) (omega (arith, search-le i))
 

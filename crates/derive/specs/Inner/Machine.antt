@@ -4,6 +4,7 @@ use Prim.Native.Nat.{ℕ, zero, suc}
 use mathlib.Core.Bool.{true, false, cond, not, _&&_}
 use mathlib.Core.List.{List, [], _∷_}
 use lib.Dec.{eqb}
+use Rattle.deduction.specs.Setting.{Setting}
 use Rattle.deduction.specs.Entry.{Entry}
 use Rattle.deduction.specs.Standard.{setAt}
 use Rattle.deduction.specs.Elimination.{Knowledge, learn}
@@ -15,20 +16,20 @@ pub record Ended : Type 0 where
   pub steps : List Step
   pub final : Knowledge
 
-unfoldable pub stepNext : (ℕ → Entry) → ℕ → Knowledge → Step
-stepNext e n k = stepAt e n k (nextNumber e n k)
+unfoldable pub stepNext : Setting → (ℕ → Entry) → ℕ → Knowledge → Step
+stepNext on e n k = stepAt e n k (nextNumber on e n k)
 
-unfoldable pub stopped : (ℕ → Entry) → ℕ → ℕ → Knowledge → Ended
-stopped e n goal k =
-    record { verdict = cond (reached e goal k) derivable (cond (eqb (nextNumber e n k) noStep) underivable exhausted); steps = []; final = k }
+unfoldable pub stopped : Setting → (ℕ → Entry) → ℕ → ℕ → Knowledge → Ended
+stopped on e n goal k =
+    record { verdict = cond (reached e goal k) derivable (cond (eqb (nextNumber on e n k) noStep) underivable exhausted); steps = []; final = k }
 
 unfoldable pub follow : Step → Ended → Ended
 follow s o = record { verdict = o .verdict; steps = s ∷ o .steps; final = o .final }
 
-unfoldable pub machine : (ℕ → Entry) → ℕ → ℕ → ℕ → Knowledge → Ended
-machine e n goal zero k = stopped e n goal k
-machine e n goal (suc b) k =
-    elim (not (reached e goal k) && not (eqb (nextNumber e n k) noStep)) [
-      | true ↦ follow (stepNext e n k) (machine e n goal b (learn (setAt e) k (stepNext e n k .head)))
-      | false ↦ stopped e n goal k
+unfoldable pub machine : Setting → (ℕ → Entry) → ℕ → ℕ → ℕ → Knowledge → Ended
+machine on e n goal zero k = stopped on e n goal k
+machine on e n goal (suc b) k =
+    elim (not (reached e goal k) && not (eqb (nextNumber on e n k) noStep)) [
+      | true ↦ follow (stepNext on e n k) (machine on e n goal b (learn (setAt e) k (stepNext on e n k .head)))
+      | false ↦ stopped on e n goal k
     ]

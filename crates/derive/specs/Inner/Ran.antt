@@ -5,6 +5,7 @@ use Prim.Native.Nat.{ℕ, _+_, _*_, _≤_}
 use mathlib.Core.Path.{_≡_}
 use mathlib.Core.List.{List, _++_}
 use lib.ListN.{length, take, drop}
+use Rattle.deduction.specs.Setting.{Setting}
 use Rattle.deduction.specs.Standard.{setAt}
 use Rattle.deduction.specs.Run as theory
 use Rattle.dag.specs.Sheet.{countOf, goalOf}
@@ -39,15 +40,15 @@ pub record Ready (s keys : List ℕ) (sets : List (List ℕ)) (reps known rows :
   pub space : front + 40 * budget ≤ length out
 
 -- the run from the state that the words hold
-abbrev pub endOf : List ℕ → ℕ → List ℕ → List ℕ → ℕ → Ended
-endOf s budget known rows len = machine (entryAt s) (countOf s) (goalOf s) budget (stateOf known rows len)
+abbrev pub endOf : Setting → List ℕ → ℕ → List ℕ → List ℕ → ℕ → Ended
+endOf on s budget known rows len = machine on (entryAt s) (countOf s) (goalOf s) budget (stateOf known rows len)
 
-pub record Ran (s known rows : List ℕ) (len : ℕ) (remainders : List (List ℕ)) (budget front : ℕ) (out : List ℕ) (r : program.Ended) (rows′ : List ℕ) (remainders′ : List (List ℕ)) (out′ : List ℕ) : Type 0 where
-  pub verdict : verdictOf (r .verdict) ≡ endOf s budget known rows len .verdict
-  pub count : r .made ≡ length (endOf s budget known rows len .steps)
-  pub state : stateOf (r .known) rows′ (r .len) ≡ endOf s budget known rows len .final
+pub record Ran (on : Setting) (s known rows : List ℕ) (len : ℕ) (remainders : List (List ℕ)) (budget front : ℕ) (out : List ℕ) (r : program.Ended) (rows′ : List ℕ) (remainders′ : List (List ℕ)) (out′ : List ℕ) : Type 0 where
+  pub verdict : verdictOf (r .verdict) ≡ endOf on s budget known rows len .verdict
+  pub count : r .made ≡ length (endOf on s budget known rows len .steps)
+  pub state : stateOf (r .known) rows′ (r .len) ≡ endOf on s budget known rows len .final
   -- "40 bytes a rung .. Later bytes keep their values". The steps begin at byte `front`
-  pub bytes : out′ ≡ take front out ++ (stepsBytes (endOf s budget known rows len .steps) ++ drop (front + 40 * r .made) out)
+  pub bytes : out′ ≡ take front out ++ (stepsBytes (endOf on s budget known rows len .steps) ++ drop (front + 40 * r .made) out)
   pub room : Room (r .known) (r .len)
   pub kept : SameOutside (8 * len) (8 * r .len) rows rows′
   pub cache : Remainders (setAt (entryAt s)) (countOf s) rows′ (r .len) remainders′

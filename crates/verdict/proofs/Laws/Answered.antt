@@ -11,6 +11,7 @@ use borrow.Author.Tests.{lt-ltb, le-ltb, ltb-false, eq-eqb, ne-eqb}
 use lib.Dec.{ltb, eqb}
 use lib.ListN.{length, take, drop, take-append-drop}
 use lib.Seq.{length-take-le, drop-append-le}
+use Rattle.deduction.specs.Setting.{Setting}
 use Rattle.deduction.specs.Run.{Verdict, exhausted, Outcome, knowledge}
 use Rattle.deduction.proofs.Steps.Course.{course-budget}
 use Rattle.dag.specs.Sheet.{countOf, traceLength}
@@ -106,112 +107,112 @@ module _ (s : List ℕ) (cut budget space : ℕ) where
     ok-space = ltb-false space (front + 40 * budget) (when-zero _ 9 (orElse-zero-right row9 _ rest8))
 
 -- a refused call
-pub refused-answer : (s : List ℕ) (cut budget space : ℕ) → (refusalOf s cut budget space ≡ 0 → ⊥) → refusalOf s cut budget space ≡ answerOf s cut budget space
+pub refused-answer : (on : Setting) (s : List ℕ) (cut budget space : ℕ) → (refusalOf s cut budget space ≡ 0 → ⊥) → refusalOf s cut budget space ≡ answerOf on s cut budget space
 unfolding answerOf
-refused-answer s cut budget space n =
+refused-answer on s cut budget space n =
     sym
     (ap
     (λ (b : Bool).
-    cond b (verdictCode (outcomeOf s cut budget .verdict) + length (outcomeOf s cut budget .steps)) (refusalOf s cut budget space))
+    cond b (verdictCode (outcomeOf on s cut budget .verdict) + length (outcomeOf on s cut budget .steps)) (refusalOf s cut budget space))
     (ne-eqb (refusalOf s cut budget space) 0 n))
 
-pub refused-buffer : (s : List ℕ) (cut budget : ℕ) (old : List ℕ) → (refusalOf s cut budget (length old) ≡ 0 → ⊥) → old ≡ bufferOf s cut budget old
+pub refused-buffer : (on : Setting) (s : List ℕ) (cut budget : ℕ) (old : List ℕ) → (refusalOf s cut budget (length old) ≡ 0 → ⊥) → old ≡ bufferOf on s cut budget old
 unfolding bufferOf
-refused-buffer s cut budget old n =
+refused-buffer on s cut budget old n =
     sym
     (ap
     (λ (b : Bool).
     cond b
-    (frontOf s cut budget
-    ++ (stepsBytes (outcomeOf s cut budget .steps) ++ drop (front + 40 * length (outcomeOf s cut budget .steps)) old))
+    (frontOf on s cut budget
+    ++ (stepsBytes (outcomeOf on s cut budget .steps) ++ drop (front + 40 * length (outcomeOf on s cut budget .steps)) old))
     old)
     (ne-eqb (refusalOf s cut budget (length old)) 0 n))
 
 -- a call that isn't refused, by the definitions: its answer, its buffer, and what is read back from that
-module _ (s : List ℕ) (cut budget : ℕ) (old : List ℕ) (ok : refusalOf s cut budget (length old) ≡ 0) where
+module _ (on : Setting) (s : List ℕ) (cut budget : ℕ) (old : List ℕ) (ok : refusalOf s cut budget (length old) ≡ 0) where
   abbrev o : Outcome
-  o = outcomeOf s cut budget
+  o = outcomeOf on s cut budget
 
   abbrev gained : ℕ
   gained = knowledge (entryAt s) (o .learnt) .known
 
-  pub accepted-answer : answerOf s cut budget (length old) ≡ verdictCode (o .verdict) + length (o .steps)
+  pub accepted-answer : answerOf on s cut budget (length old) ≡ verdictCode (o .verdict) + length (o .steps)
   unfolding answerOf
   accepted-answer =
       ap (λ (b : Bool). cond b (verdictCode (o .verdict) + length (o .steps)) (refusalOf s cut budget (length old)))
       (eq-eqb (refusalOf s cut budget (length old)) 0 ok)
 
-  pub accepted-buffer : bufferOf s cut budget old ≡ frontOf s cut budget ++ (stepsBytes (o .steps) ++ drop (front + 40 * length (o .steps)) old)
+  pub accepted-buffer : bufferOf on s cut budget old ≡ frontOf on s cut budget ++ (stepsBytes (o .steps) ++ drop (front + 40 * length (o .steps)) old)
   unfolding bufferOf
   accepted-buffer =
-      ap (λ (b : Bool). cond b (frontOf s cut budget ++ (stepsBytes (o .steps) ++ drop (front + 40 * length (o .steps)) old)) old)
+      ap (λ (b : Bool). cond b (frontOf on s cut budget ++ (stepsBytes (o .steps) ++ drop (front + 40 * length (o .steps)) old)) old)
       (eq-eqb (refusalOf s cut budget (length old)) 0 ok)
 
   pub accepted-few : length (o .steps) ≤ 256
-  accepted-few = few-steps s cut budget (ok-sheet s cut budget (length old) ok) (ok-cut s cut budget (length old) ok)
+  accepted-few = few-steps on s cut budget (ok-sheet s cut budget (length old) ok) (ok-cut s cut budget (length old) ok)
 
-  pub accepted-known : gainedIn (bufferOf s cut budget old) ≡ gained
+  pub accepted-known : gainedIn (bufferOf on s cut budget old) ≡ gained
   accepted-known =
       ap gainedIn accepted-buffer
-      ∙ known-read s cut budget (ok-sheet s cut budget (length old) ok) (ok-cut s cut budget (length old) ok) (stepsBytes (o .steps) ++ drop (front + 40 * length (o .steps)) old)
+      ∙ known-read on s cut budget (ok-sheet s cut budget (length old) ok) (ok-cut s cut budget (length old) ok) (stepsBytes (o .steps) ++ drop (front + 40 * length (o .steps)) old)
 
-  pub accepted-missing : (usedIn (bufferOf s cut budget old) ≡ missingOf s cut budget .used) × (remainderIn (bufferOf s cut budget old) ≡ missingOf s cut budget .remainder)
+  pub accepted-missing : (usedIn (bufferOf on s cut budget old) ≡ missingOf on s cut budget .used) × (remainderIn (bufferOf on s cut budget old) ≡ missingOf on s cut budget .remainder)
   accepted-missing =
-      let (used, remainder) = missing-read s cut budget (ok-sheet s cut budget (length old) ok) (ok-cut s cut budget (length old) ok) (stepsBytes (o .steps) ++ drop (front + 40 * length (o .steps)) old) in
+      let (used, remainder) = missing-read on s cut budget (ok-sheet s cut budget (length old) ok) (ok-cut s cut budget (length old) ok) (stepsBytes (o .steps) ++ drop (front + 40 * length (o .steps)) old) in
       (ap usedIn accepted-buffer ∙ used, ap remainderIn accepted-buffer ∙ remainder)
 
-  pub accepted-steps : stepsIn (bufferOf s cut budget old) (length (o .steps)) ≡ o .steps
+  pub accepted-steps : stepsIn (bufferOf on s cut budget old) (length (o .steps)) ≡ o .steps
   accepted-steps =
       ap (λ (b : List ℕ). stepsIn b (length (o .steps))) accepted-buffer
-      ∙ steps-read s cut budget (ok-sheet s cut budget (length old) ok) (ok-cut s cut budget (length old) ok) (drop (front + 40 * length (o .steps)) old)
+      ∙ steps-read on s cut budget (ok-sheet s cut budget (length old) ok) (ok-cut s cut budget (length old) ok) (drop (front + 40 * length (o .steps)) old)
 
-  pub accepted-meets : Meets s cut budget old (bufferOf s cut budget old) (answerOf s cut budget (length old))
+  pub accepted-meets : Meets on s cut budget old (bufferOf on s cut budget old) (answerOf on s cut budget (length old))
   accepted-meets =
-      subst (λ (a : ℕ). Meets s cut budget old (bufferOf s cut budget old) a) (sym accepted-answer)
-      (subst (λ (b : List ℕ). Meets s cut budget old b (verdictCode (o .verdict) + length (o .steps))) (sym accepted-buffer)
-      (meets s cut budget (ok-sheet s cut budget (length old) ok) (ok-cut s cut budget (length old) ok) old))
+      subst (λ (a : ℕ). Meets on s cut budget old (bufferOf on s cut budget old) a) (sym accepted-answer)
+      (subst (λ (b : List ℕ). Meets on s cut budget old b (verdictCode (o .verdict) + length (o .steps))) (sym accepted-buffer)
+      (meets on s cut budget (ok-sheet s cut budget (length old) ok) (ok-cut s cut budget (length old) ok) old))
 
   pub accepted-ends : countOf s ≤ budget → ¬ (o .verdict ≡ exhausted)
-  accepted-ends = run-ends s cut budget (ok-sheet s cut budget (length old) ok) (ok-cut s cut budget (length old) ok)
+  accepted-ends = run-ends on s cut budget (ok-sheet s cut budget (length old) ok) (ok-cut s cut budget (length old) ok)
 
 -- a call that was decided: its answer and its buffer
-pub answered-few : (s : List ℕ) (cut budget : ℕ) (out out′ : List ℕ) (r : Ended) → Decided s cut budget out out′ r → refusalOf s cut budget (length out) ≡ 0 → r .made ≤ 256
-answered-few s cut budget out out′ r d ok = le-trans (le-of-eq (d .count)) (accepted-few s cut budget out ok)
+pub answered-few : (on : Setting) (s : List ℕ) (cut budget : ℕ) (out out′ : List ℕ) (r : Ended) → Decided on s cut budget out out′ r → refusalOf s cut budget (length out) ≡ 0 → r .made ≤ 256
+answered-few on s cut budget out out′ r d ok = le-trans (le-of-eq (d .count)) (accepted-few on s cut budget out ok)
 
-module _ (s : List ℕ) (cut budget : ℕ) (out out′ : List ℕ) (r : Ended) (d : Decided s cut budget out out′ r) (ok : refusalOf s cut budget (length out) ≡ 0) (v : program.Verdict) (is : r .verdict ≡ v) where
-  number-is : verdictCode (verdictOf v) + r .made ≡ verdictCode (outcomeOf s cut budget .verdict) + length (outcomeOf s cut budget .steps)
+module _ (on : Setting) (s : List ℕ) (cut budget : ℕ) (out out′ : List ℕ) (r : Ended) (d : Decided on s cut budget out out′ r) (ok : refusalOf s cut budget (length out) ≡ 0) (v : program.Verdict) (is : r .verdict ≡ v) where
+  number-is : verdictCode (verdictOf v) + r .made ≡ verdictCode (outcomeOf on s cut budget .verdict) + length (outcomeOf on s cut budget .steps)
   number-is = ap₂ (λ (w : Verdict) (k : ℕ). verdictCode w + k) (ap verdictOf (sym is) ∙ d .verdict) (d .count)
 
-  pub answered : verdictCode (verdictOf v) + r .made ≡ answerOf s cut budget (length out)
-  answered = number-is ∙ sym (accepted-answer s cut budget out ok)
+  pub answered : verdictCode (verdictOf v) + r .made ≡ answerOf on s cut budget (length out)
+  answered = number-is ∙ sym (accepted-answer on s cut budget out ok)
 
-  pub answered-buffer : out′ ≡ bufferOf s cut budget out
-  answered-buffer = d .bytes ∙ sym (accepted-buffer s cut budget out ok)
+  pub answered-buffer : out′ ≡ bufferOf on s cut budget out
+  answered-buffer = d .bytes ∙ sym (accepted-buffer on s cut budget out ok)
 
 -- what the equations give is as demanded, refused or not
-pub equations-demand : (s : List ℕ) (cut budget : ℕ) (old out : List ℕ) (answer : ℕ) → answer ≡ answerOf s cut budget (length old) → out ≡ bufferOf s cut budget old → Demanded s cut budget old out answer
-equations-demand s cut budget old out answer p q =
+pub equations-demand : (on : Setting) (s : List ℕ) (cut budget : ℕ) (old out : List ℕ) (answer : ℕ) → answer ≡ answerOf on s cut budget (length old) → out ≡ bufferOf on s cut budget old → Demanded on s cut budget old out answer
+equations-demand on s cut budget old out answer p q =
     record {
-      refused = λ n. (p ∙ sym (refused-answer s cut budget (length old) n), q ∙ sym (refused-buffer s cut budget old n));
+      refused = λ n. (p ∙ sym (refused-answer on s cut budget (length old) n), q ∙ sym (refused-buffer on s cut budget old n));
       judged = λ ok.
-          subst (λ (a : ℕ). Meets s cut budget old out a) (sym p)
-          (subst (λ (b : List ℕ). Meets s cut budget old b (answerOf s cut budget (length old))) (sym q) (accepted-meets s cut budget old ok));
+          subst (λ (a : ℕ). Meets on s cut budget old out a) (sym p)
+          (subst (λ (b : List ℕ). Meets on s cut budget old b (answerOf on s cut budget (length old))) (sym q) (accepted-meets on s cut budget old ok));
     }
 
 -- a buffer that is longer than the budget needs: the same answer, and the bytes past the need as they were
-module _ (s : List ℕ) (cut budget : ℕ) where
+module _ (on : Setting) (s : List ℕ) (cut budget : ℕ) where
   refusal-enough : (a b : ℕ) → front + 40 * budget ≤ a → front + 40 * budget ≤ b → refusalOf s cut budget a ≡ refusalOf s cut budget b
   unfolding refusalOf
   refusal-enough a b ha hb =
       ap (λ (t : Bool). orElse (refusal s) (orElse (when (ltb (traceLength s) cut) 8) (orElse (when (ltb 256 budget) 9) (when t 10))))
       (le-ltb a (front + 40 * budget) ha ∙ sym (le-ltb b (front + 40 * budget) hb))
 
-  pub answer-enough : (a b : ℕ) → front + 40 * budget ≤ a → front + 40 * budget ≤ b → answerOf s cut budget a ≡ answerOf s cut budget b
+  pub answer-enough : (a b : ℕ) → front + 40 * budget ≤ a → front + 40 * budget ≤ b → answerOf on s cut budget a ≡ answerOf on s cut budget b
   unfolding answerOf
   answer-enough a b ha hb =
-      ap (λ (r : ℕ). cond (eqb r 0) (verdictCode (outcomeOf s cut budget .verdict) + length (outcomeOf s cut budget .steps)) r) (refusal-enough a b ha hb)
+      ap (λ (r : ℕ). cond (eqb r 0) (verdictCode (outcomeOf on s cut budget .verdict) + length (outcomeOf on s cut budget .steps)) r) (refusal-enough a b ha hb)
 
-  pub buffer-enough : (old : List ℕ) → front + 40 * budget ≤ length old → bufferOf s cut budget (take (front + 40 * budget) old) ++ drop (front + 40 * budget) old ≡ bufferOf s cut budget old
+  pub buffer-enough : (old : List ℕ) → front + 40 * budget ≤ length old → bufferOf on s cut budget (take (front + 40 * budget) old) ++ drop (front + 40 * budget) old ≡ bufferOf on s cut budget old
   buffer-enough old h = by-cases (ℕ-discrete (refusalOf s cut budget (length old)) 0) judged refused
     where
       need : ℕ
@@ -223,20 +224,20 @@ module _ (s : List ℕ) (cut budget : ℕ) where
       same : refusalOf s cut budget (length part) ≡ refusalOf s cut budget (length old)
       same = refusal-enough (length part) (length old) (le-of-eq (sym (length-take-le need old h))) h
 
-      refused : (refusalOf s cut budget (length old) ≡ 0 → ⊥) → bufferOf s cut budget part ++ drop need old ≡ bufferOf s cut budget old
+      refused : (refusalOf s cut budget (length old) ≡ 0 → ⊥) → bufferOf on s cut budget part ++ drop need old ≡ bufferOf on s cut budget old
       refused n =
-          ap (λ (b : List ℕ). b ++ drop need old) (sym (refused-buffer s cut budget part (λ p. n (sym same ∙ p))))
-          ∙ take-append-drop need old ∙ refused-buffer s cut budget old n
+          ap (λ (b : List ℕ). b ++ drop need old) (sym (refused-buffer on s cut budget part (λ p. n (sym same ∙ p))))
+          ∙ take-append-drop need old ∙ refused-buffer on s cut budget old n
 
-      judged : refusalOf s cut budget (length old) ≡ 0 → bufferOf s cut budget part ++ drop need old ≡ bufferOf s cut budget old
+      judged : refusalOf s cut budget (length old) ≡ 0 → bufferOf on s cut budget part ++ drop need old ≡ bufferOf on s cut budget old
       judged ok =
-          let o : Outcome = outcomeOf s cut budget in
-          let first : List ℕ = frontOf s cut budget in
-          let few : length (o .steps) ≤ budget = course-budget (run-is-course s cut budget (ok-sheet s cut budget (length old) ok) (ok-cut s cut budget (length old) ok)) in
+          let o : Outcome = outcomeOf on s cut budget in
+          let first : List ℕ = frontOf on s cut budget in
+          let few : length (o .steps) ≤ budget = course-budget (run-is-course on s cut budget (ok-sheet s cut budget (length old) ok) (ok-cut s cut budget (length old) ok)) in
           let m : ℕ = front + 40 * length (o .steps) in
-          ap (λ (b : List ℕ). b ++ drop need old) (accepted-buffer s cut budget part (same ∙ ok))
+          ap (λ (b : List ℕ). b ++ drop need old) (accepted-buffer on s cut budget part (same ∙ ok))
           ∙ append-assoc first (stepsBytes (o .steps) ++ drop m part) (drop need old)
           ∙ ap (λ (b : List ℕ). first ++ b)
           (append-assoc (stepsBytes (o .steps)) (drop m part) (drop need old)
           ∙ ap (λ (b : List ℕ). stepsBytes (o .steps) ++ b) (sym (drop-append-le m part (drop need old) (omega (arith, length-take-le need old h))) ∙ ap (drop m) (take-append-drop need old)))
-          ∙ sym (accepted-buffer s cut budget old ok)
+          ∙ sym (accepted-buffer on s cut budget old ok)

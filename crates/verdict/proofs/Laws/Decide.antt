@@ -7,8 +7,8 @@ use native.Mathlib.Omega.{arith}
 use lib.ListN.{length, take, drop, length-append}
 use lib.Seq.{drop-at, length-take-le}
 use Rattle.bitset.specs.Words.{value}
+use Rattle.deduction.specs.Setting.{Setting}
 use Rattle.deduction.specs.Standard.{setAt}
-use Rattle.deduction.specs.Elimination.{reduce}
 use Rattle.deduction.specs.Step.{Step}
 use Rattle.deduction.specs.Run.{knowledge}
 use Rattle.dag.specs.Sheet.{countOf, goalOf}
@@ -21,27 +21,27 @@ use Rattle.derive.specs.Inner.Ran.{verdictOf, endOf, Ran}
 use Rattle.derive.specs.declared.run.Ended as program
 use Rattle.derive.proofs.Laws.Machine.{asEnded, machine-run}
 use Rattle.verdict.specs.Buffer.{front}
-use Rattle.verdict.specs.Answer.{outcomeOf, missingAs, missingOf, frontBytes, frontOf}
+use Rattle.verdict.specs.Answer.{outcomeOf, missingAs, missingBy, missingOf, frontBytes, frontOf}
 use Rattle.start.specs.Start.{startHeads}
 use Rattle.verdict.specs.Inner.Decide.{Decided}
 
-module _ (s : List ℕ) (cut budget : ℕ) (known rows : List ℕ) (len : ℕ) (state : stateOf known rows len ≡ knowledge (entryAt s) (startHeads s cut)) where
-  ends : endOf s budget known rows len ≡ asEnded (entryAt s) (outcomeOf s cut budget)
+module _ (on : Setting) (s : List ℕ) (cut budget : ℕ) (known rows : List ℕ) (len : ℕ) (state : stateOf known rows len ≡ knowledge (entryAt s) (startHeads s cut)) where
+  ends : endOf on s budget known rows len ≡ asEnded (entryAt s) (outcomeOf on s cut budget)
   unfolding outcomeOf
-  ends = ap (machine (entryAt s) (countOf s) (goalOf s) budget) state ∙ machine-run (entryAt s) (countOf s) (goalOf s) budget (startHeads s cut)
+  ends = ap (machine on (entryAt s) (countOf s) (goalOf s) budget) state ∙ machine-run on (entryAt s) (countOf s) (goalOf s) budget (startHeads s cut)
 
   module _ (remainders : List (List ℕ)) (out : List ℕ) (r : program.Ended) (rows′ : List ℕ) (remainders′ : List (List ℕ)) (out′ : List ℕ)
-      (ran : Ran s known rows len remainders budget front out r rows′ remainders′ out′) where
-    verdict : verdictOf (r .verdict) ≡ outcomeOf s cut budget .verdict
+      (ran : Ran on s known rows len remainders budget front out r rows′ remainders′ out′) where
+    verdict : verdictOf (r .verdict) ≡ outcomeOf on s cut budget .verdict
     verdict = ran .verdict ∙ ap (λ (o : Ended). o .verdict) ends
 
-    final : stateOf (r .known) rows′ (r .len) ≡ knowledge (entryAt s) (outcomeOf s cut budget .learnt)
+    final : stateOf (r .known) rows′ (r .len) ≡ knowledge (entryAt s) (outcomeOf on s cut budget .learnt)
     final = ran .state ∙ ap (λ (o : Ended). o .final) ends
 
-    steps : endOf s budget known rows len .steps ≡ outcomeOf s cut budget .steps
+    steps : endOf on s budget known rows len .steps ≡ outcomeOf on s cut budget .steps
     steps = ap (λ (o : Ended). o .steps) ends
 
-    count : r .made ≡ length (outcomeOf s cut budget .steps)
+    count : r .made ≡ length (outcomeOf on s cut budget .steps)
     count = ran .count ∙ ap length steps
 
     -- the buffer keeps room for its front
@@ -51,19 +51,19 @@ module _ (s : List ℕ) (cut budget : ℕ) (known rows : List ℕ) (len : ℕ) (
         at-least : (a b l : List ℕ) → l ≡ a ++ b → length a ≤ length l
         at-least a b l p = omega (arith, ap length p ∙ length-append a b)
 
-    -- the sum test of the goal's set by the rows at the end is what is missing
+    -- what is missing of the goal's set by the rows at the end is what is missing of the goal
     missing : (goal remainder used : List ℕ) → value goal ≡ setAt (entryAt s) (goalOf s)
-        → reducedOf remainder used ≡ missingAs (verdictOf (r .verdict)) (reduce (rowsOf rows′ (r .len)) (value goal)) → reducedOf remainder used ≡ missingOf s cut budget
+        → reducedOf remainder used ≡ missingAs (verdictOf (r .verdict)) (missingBy on (rowsOf rows′ (r .len)) (value goal)) → reducedOf remainder used ≡ missingOf on s cut budget
     unfolding missingOf
-    missing goal remainder used set found = found ∙ (λ i. missingAs (verdict i) (reduce (final i .rows) (set i)))
+    missing goal remainder used set found = found ∙ (λ i. missingAs (verdict i) (missingBy on (final i .rows) (set i)))
 
     pub decided : (goal remainder used : List ℕ) → value goal ≡ setAt (entryAt s) (goalOf s)
-        → reducedOf remainder used ≡ missingAs (verdictOf (r .verdict)) (reduce (rowsOf rows′ (r .len)) (value goal)) → front ≤ length out
-        → (out″ : List ℕ) → out″ ≡ frontBytes (value (r .known)) (value used) (value remainder) ++ drop front out′ → Decided s cut budget out out″ r
+        → reducedOf remainder used ≡ missingAs (verdictOf (r .verdict)) (missingBy on (rowsOf rows′ (r .len)) (value goal)) → front ≤ length out
+        → (out″ : List ℕ) → out″ ≡ frontBytes (value (r .known)) (value used) (value remainder) ++ drop front out′ → Decided on s cut budget out out″ r
     unfolding frontOf
     decided goal remainder used set found space out″ written =
         let m = missing goal remainder used set found in
-        let rest = stepsBytes (endOf s budget known rows len .steps) ++ drop (front + 40 * r .made) out in
+        let rest = stepsBytes (endOf on s budget known rows len .steps) ++ drop (front + 40 * r .made) out in
         record {
           verdict = verdict;
           count = count;

@@ -1,5 +1,5 @@
 -- `verdict::decide` meets its contract: the tables, the state at the start, the run, and what stands before its steps.
-use mathlib.Core.Path.{_≡_, refl, ap, _∙_}
+use mathlib.Core.Path.{refl, ap, _∙_}
 use mathlib.Core.List.{[]}
 use Prim.Native.Nat.{ℕ, _≤_, _<_}
 use native.Mathlib.Nat.{le-trans, le-of-eq, lt-of-le-of-lt, lt-of-lt-of-le}
@@ -10,6 +10,7 @@ use lib.ListN.{getD}
 use borrow.Author.Needs.{needs}
 use denote.Ref.{now}
 use Rattle.bitset.specs.Words.{value}
+use Rattle.deduction.specs.Setting.{switches}
 use Rattle.knowledge.proofs.Laws.Learn.{ones-words}
 use Rattle.dag.specs.Sheet.{goalOf}
 use Rattle.dag.proofs.Laws.Good.{good}
@@ -83,7 +84,7 @@ write-front-requires c κs = let r = c .before .before .before .before .before .
     let m = r .before .before .before .before .before .before .before .before .before in
     let s = m .before .before .before .before .before .before .before .before .before .before .before in
     let h = m .state in
-    long (now (s .args .s)) (s .args .cut) (s .args .budget) (h .result .known) (h .result .rows) (h .result .len) (h .ensures .0)
+    long (switches (s .args .rules)) (now (s .args .s)) (s .args .cut) (s .args .budget) (h .result .known) (h .result .rows) (h .result .len) (h .ensures .0)
     (h .last .1 .1 .1 .1 .1 .0) (now (s .args .out)) (r .run .result) _ _ _ (r .run .ensures) (omega (arith, s .pre .3))
 
 same-length : tie.Need-same-length
@@ -98,7 +99,7 @@ returns c = let r = c .before .before .before .before .before .before .before .b
     let x = c .before .before .before .before .missing in
     let t = m .before .before .before .before .before .tables in
     let set = ap (λ (i : ℕ). value (getD (t .last .1 .1 .0) i [])) (c .before .before .before .before .before .before .before .goal .ensures) ∙ t .ensures .right .set (goalOf (now (s .args .s))) (good (now (s .args .s)) (s .pre .0) .goal) in
-    decided (now (s .args .s)) (s .args .cut) (s .args .budget) (h .result .known) (h .result .rows) (h .result .len) (h .ensures .0)
+    decided (switches (s .args .rules)) (now (s .args .s)) (s .args .cut) (s .args .budget) (h .result .known) (h .result .rows) (h .result .len) (h .ensures .0)
     (h .last .1 .1 .1 .1 .1 .0) (now (s .args .out)) (r .run .result) _ _ _ (r .run .ensures) _ (x .result .remainder) (x .result .used) set (x .ensures) (omega (arith, s .pre .3)) (w .last .1 .1 .0) (w .ensures)
 
 pub decide-spec : {M : Type 1} → statement M

@@ -3,6 +3,7 @@ use mathlib.Core.Path.{sym}
 use lib.ListN.{length}
 use borrow.Author.Needs.{needs}
 use denote.Ref.{now}
+use Rattle.deduction.specs.Setting.{switches}
 use Rattle.derive.specs.declared.run.Verdict.the-variants.{Derivable, Underivable, Exhausted}
 use Rattle.verdict.proofs.Laws.Answered.{accepted, answered, answered-few, answered-buffer}
 use Rattle.verdict.proofs.judged.Statement.{statement}
@@ -29,7 +30,7 @@ returns c =
     let s = b .args in
     let d = c .before .before .before .before .decide in
     let ok = sym (accepted (now (s .s)) (s .cut) (s .budget) (length (now (s .out))) (b .pre .0) (b .pre .1) (b .pre .2) (b .pre .3)) in
-    (answered (now (s .s)) (s .cut) (s .budget) (now (s .out)) (d .last .1 .1 .1 .0) (d .result) (d .ensures) ok Derivable (c .enum-told .given .1), (answered-few (now (s .s)) (s .cut) (s .budget) (now (s .out)) (d .last .1 .1 .1 .0) (d .result) (d .ensures) ok, answered-buffer (now (s .s)) (s .cut) (s .budget) (now (s .out)) (d .last .1 .1 .1 .0) (d .result) (d .ensures) ok Derivable (c .enum-told .given .1)))
+    (answered (switches (s .rules)) (now (s .s)) (s .cut) (s .budget) (now (s .out)) (d .last .1 .1 .1 .1 .0) (d .result) (d .ensures) ok Derivable (c .enum-told .given .1), (answered-few (switches (s .rules)) (now (s .s)) (s .cut) (s .budget) (now (s .out)) (d .last .1 .1 .1 .1 .0) (d .result) (d .ensures) ok, answered-buffer (switches (s .rules)) (now (s .s)) (s .cut) (s .budget) (now (s .out)) (d .last .1 .1 .1 .1 .0) (d .result) (d .ensures) ok Derivable (c .enum-told .given .1)))
 
 same-length-2 : tie.Need-same-length-2
 same-length-2 c = search needs
@@ -40,7 +41,7 @@ returns-2 c =
     let s = b .args in
     let d = c .before .before .before .before .decide in
     let ok = sym (accepted (now (s .s)) (s .cut) (s .budget) (length (now (s .out))) (b .pre .0) (b .pre .1) (b .pre .2) (b .pre .3)) in
-    (answered (now (s .s)) (s .cut) (s .budget) (now (s .out)) (d .last .1 .1 .1 .0) (d .result) (d .ensures) ok Underivable (c .enum-told2 .given .1), (answered-few (now (s .s)) (s .cut) (s .budget) (now (s .out)) (d .last .1 .1 .1 .0) (d .result) (d .ensures) ok, answered-buffer (now (s .s)) (s .cut) (s .budget) (now (s .out)) (d .last .1 .1 .1 .0) (d .result) (d .ensures) ok Underivable (c .enum-told2 .given .1)))
+    (answered (switches (s .rules)) (now (s .s)) (s .cut) (s .budget) (now (s .out)) (d .last .1 .1 .1 .1 .0) (d .result) (d .ensures) ok Underivable (c .enum-told2 .given .1), (answered-few (switches (s .rules)) (now (s .s)) (s .cut) (s .budget) (now (s .out)) (d .last .1 .1 .1 .1 .0) (d .result) (d .ensures) ok, answered-buffer (switches (s .rules)) (now (s .s)) (s .cut) (s .budget) (now (s .out)) (d .last .1 .1 .1 .1 .0) (d .result) (d .ensures) ok Underivable (c .enum-told2 .given .1)))
 
 same-length-3 : tie.Need-same-length-3
 same-length-3 c = search needs
@@ -51,7 +52,7 @@ returns-3 c =
     let s = b .args in
     let d = c .before .before .before .before .decide in
     let ok = sym (accepted (now (s .s)) (s .cut) (s .budget) (length (now (s .out))) (b .pre .0) (b .pre .1) (b .pre .2) (b .pre .3)) in
-    (answered (now (s .s)) (s .cut) (s .budget) (now (s .out)) (d .last .1 .1 .1 .0) (d .result) (d .ensures) ok Exhausted (c .enum-told3 .given .1), (answered-few (now (s .s)) (s .cut) (s .budget) (now (s .out)) (d .last .1 .1 .1 .0) (d .result) (d .ensures) ok, answered-buffer (now (s .s)) (s .cut) (s .budget) (now (s .out)) (d .last .1 .1 .1 .0) (d .result) (d .ensures) ok Exhausted (c .enum-told3 .given .1)))
+    (answered (switches (s .rules)) (now (s .s)) (s .cut) (s .budget) (now (s .out)) (d .last .1 .1 .1 .1 .0) (d .result) (d .ensures) ok Exhausted (c .enum-told3 .given .1), (answered-few (switches (s .rules)) (now (s .s)) (s .cut) (s .budget) (now (s .out)) (d .last .1 .1 .1 .1 .0) (d .result) (d .ensures) ok, answered-buffer (switches (s .rules)) (now (s .s)) (s .cut) (s .budget) (now (s .out)) (d .last .1 .1 .1 .1 .0) (d .result) (d .ensures) ok Exhausted (c .enum-told3 .given .1)))
 
 pub judged-spec : {M : Type 1} → statement M
 judged-spec =

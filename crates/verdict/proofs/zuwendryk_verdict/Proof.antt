@@ -2,6 +2,7 @@
 use mathlib.Core.Path.{sym, _∙_, subst}
 use borrow.Author.Needs.{needs}
 use denote.Ref.{now}
+use Rattle.deduction.specs.Setting.{every}
 use Rattle.verdict.specs.Demands.{Demanded}
 use Rattle.verdict.proofs.zuwendryk_verdict.Statement.{statement}
 use Rattle.verdict.proofs.zuwendryk_verdict.Tie as tie
@@ -18,7 +19,7 @@ same-length c = search needs
 returns : tie.Need-returns
 returns c = let s = c .before .before .before .before .before .before .before .args in
     let v = c .before .before .before .verdict .ensures in
-    (c .number .ensures ∙ v .0, (v .1 .1 .0, subst (Demanded (now (s .sheet)) (s .cut) (s .budget) (now (s .buffer)) (c .before .before .before .verdict .last .1 .1 .1 .0)) (sym (c .number .ensures)) (v .1 .1 .1)))
+    (c .number .ensures ∙ v .0, (v .1 .1 .0, subst (Demanded every (now (s .sheet)) (s .cut) (s .budget) (now (s .buffer)) (c .before .before .before .verdict .last .1 .1 .1 .0)) (sym (c .number .ensures)) (v .1 .1 .1)))
 
 pub zuwendryk-verdict-spec : {M : Type 1} → statement M
 zuwendryk-verdict-spec = tie.close (tie.spec verdict-requires number-requires same-length returns)

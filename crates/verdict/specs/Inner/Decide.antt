@@ -4,6 +4,7 @@ use mathlib.Core.Path.{_≡_}
 use mathlib.Core.Bool.{Bool, true, false}
 use mathlib.Core.List.{List, _++_}
 use lib.ListN.{length, drop}
+use Rattle.deduction.specs.Setting.{Setting}
 use Rattle.deduction.specs.Run.{Verdict, derivable, underivable, exhausted}
 use Rattle.derive.specs.Inner.Ran.{verdictOf}
 use Rattle.derive.specs.Bytes.{stepsBytes}
@@ -17,9 +18,9 @@ isUnderivable underivable = true
 isUnderivable exhausted = false
 
 -- the outcome of the run, and the buffer after it
-pub record Decided (s : List ℕ) (cut budget : ℕ) (out out′ : List ℕ) (r : Ended) : Type 0 where
-  pub verdict : verdictOf (r .verdict) ≡ outcomeOf s cut budget .verdict
-  pub count : r .made ≡ length (outcomeOf s cut budget .steps)
+pub record Decided (on : Setting) (s : List ℕ) (cut budget : ℕ) (out out′ : List ℕ) (r : Ended) : Type 0 where
+  pub verdict : verdictOf (r .verdict) ≡ outcomeOf on s cut budget .verdict
+  pub count : r .made ≡ length (outcomeOf on s cut budget .steps)
   pub bytes : out′
-      ≡ frontOf s cut budget
-      ++ (stepsBytes (outcomeOf s cut budget .steps) ++ drop (front + 40 * length (outcomeOf s cut budget .steps)) out)
+      ≡ frontOf on s cut budget
+      ++ (stepsBytes (outcomeOf on s cut budget .steps) ++ drop (front + 40 * length (outcomeOf on s cut budget .steps)) out)

@@ -6,17 +6,18 @@ use native.Mathlib.Omega.{arith}
 use borrow.Author.Needs.{needs}
 use denote.Ref.{now}
 use Rattle.bitset.specs.Words.{value}
+use Rattle.deduction.specs.Setting.{switches}
 use Rattle.derive.specs.Inner.Search.{searchLeast}
 use Rattle.derive.proofs.Laws.Line.{search-line, search-skip}
 use Rattle.derive.proofs.next.next.Statement.{statement}
 use Rattle.derive.proofs.next.next.Tie as tie
 
 abbrev Inv-loop : tie.InvT-loop
-Inv-loop keys reps n known remainders best₀ i₀ best i =
-    (i ≤ n) × (n ≤ 256) × (best ≡ searchLeast (value known) keys reps remainders i)
+Inv-loop keys reps n known remainders rules best₀ i₀ best i =
+    (i ≤ n) × (n ≤ 256) × (best ≡ searchLeast (switches rules) (value known) keys reps remainders i)
 
 abbrev μ-loop : tie.MeasureT-loop
-μ-loop keys reps n known remainders best₀ i₀ best i =
+μ-loop keys reps n known remainders rules best₀ i₀ best i =
     n - i
 
 loop-holds : tie.Need-loop-holds Inv-loop μ-loop
@@ -34,15 +35,6 @@ mul-offered-by c = search needs
 
 element-copy-out-offered-by : tie.Need-element-copy-out-offered-by Inv-loop μ-loop
 element-copy-out-offered-by c = search needs
-
-mul-is-empty : tie.Need-mul-is-empty Inv-loop μ-loop
-mul-is-empty c = search needs
-
-element-copy-out-is-empty : tie.Need-element-copy-out-is-empty Inv-loop μ-loop
-element-copy-out-is-empty c = search needs
-
-is-empty-requires : tie.Need-is-empty-requires Inv-loop μ-loop
-is-empty-requires c κs = search needs
 
 offered-by-requires : tie.Need-offered-by-requires Inv-loop μ-loop
 offered-by-requires c κs = search needs
@@ -63,14 +55,14 @@ loop-again c = let b = c .before .before .before in
     let g = value (a .known) in (
       omega arith,
       l .inv .1,
-      ⊎-elim (λ w. w .6 ∙ search-line g (now (a .keys)) (now (a .reps)) (now (a .remainders)) (l .i) (l .inv .2) (w .0 .taken) (w .3 .ensures) (w .4 .ensures) (w .5 .ensures))
-          (λ w. w .1 ∙ search-skip g (now (a .keys)) (now (a .reps)) (now (a .remainders)) (l .i) (l .inv .2) (w .0 .left)) (c .if1 .came),
+      ⊎-elim (λ w. w .4 ∙ search-line (switches (a .rules)) g (now (a .keys)) (now (a .reps)) (now (a .remainders)) (l .i) (l .inv .2) (w .0 .taken) (w .2 .ensures) (w .3 .ensures))
+          (λ w. w .1 ∙ search-skip (switches (a .rules)) g (now (a .keys)) (now (a .reps)) (now (a .remainders)) (l .i) (l .inv .2) (w .0 .left)) (c .if1 .came),
     )
 
 returns : tie.Need-returns Inv-loop μ-loop
 returns c = let a = c .before .before .args in
     let l = c .before .loop in
-    l .inv .2 ∙ ap (searchLeast (value (a .known)) (now (a .keys)) (now (a .reps)) (now (a .remainders))) (omega arith)
+    l .inv .2 ∙ ap (searchLeast (switches (a .rules)) (value (a .known)) (now (a .keys)) (now (a .reps)) (now (a .remainders))) (omega arith)
 
 pub next-spec : {M : Type 1} → statement M
 next-spec =
@@ -83,9 +75,6 @@ next-spec =
     element-copy-out-if1
     mul-offered-by
     element-copy-out-offered-by
-    mul-is-empty
-    element-copy-out-is-empty
-    is-empty-requires
     offered-by-requires
     least-requires
     add-i

@@ -12,12 +12,12 @@ returns : tie.Need-returns
 unfolding offered
 returns c = rw (sym (c .before .member .ensures) ∙ c .if1 .taken)
 
-number-requires : tie.Need-number-requires
-number-requires c κs = search needs
+by-rule-requires : tie.Need-by-rule-requires
+by-rule-requires c κs = search needs
 
 returns-2 : tie.Need-returns-2
 unfolding offered
-returns-2 c = rw (sym (c .before .before .member .ensures) ∙ c .before .if1 .left) (c .number .ensures)
+returns-2 c = rw (sym (c .before .before .member .ensures) ∙ c .before .if1 .left) (c .by-rule .ensures)
 
 pub offer-spec : {M : Type 1} → statement M
-offer-spec = tie.close (tie.spec member-requires returns number-requires returns-2)
+offer-spec = tie.close (tie.spec member-requires returns by-rule-requires returns-2)

@@ -20,6 +20,7 @@ use Rattle.derive.proofs.Laws.Search.{sheet-next, sheet-step, sheet-hea
 use Rattle.dag.specs.Sheet.{countOf, goalOf}
 use Rattle.dag.specs.Record.{entryAt}
 use Rattle.dag.proofs.Laws.Good.{good}
+use Rattle.deduction.specs.Setting.{switches}
 use Rattle.deduction.specs.Standard.{repAt}
 use Rattle.deduction.specs.Run as theory
 use Rattle.knowledge.specs.Inner.State.{stateOf}
@@ -32,12 +33,12 @@ use Rattle.derive.proofs.run.run.Statement.{statement}
 use Rattle.derive.proofs.run.run.Tie as tie
 
 abbrev Inv-loop : tie.InvT-loop
-Inv-loop s keys sets reps rows₀ len remainders₀ budget front out₀ n goal head have₀ used₀ made₀ rows remainders out have used made =
+Inv-loop s keys sets reps rows₀ len remainders₀ budget rules front out₀ n goal head have₀ used₀ made₀ rows remainders out have used made =
     (n ≡ countOf s) × (head ≡ repAt (entryAt s) (goalOf s)) × Ready s keys sets reps have₀ rows₀ used₀ remainders₀ budget front out₀
-    × Along s have₀ rows₀ used₀ remainders₀ budget front out₀ have rows used remainders made out × (used ≤ 256)
+    × Along (switches rules) s have₀ rows₀ used₀ remainders₀ budget front out₀ have rows used remainders made out × (used ≤ 256)
 
 abbrev μ-loop : tie.MeasureT-loop
-μ-loop s keys sets reps rows₀ len remainders₀ budget front out₀ n goal head have₀ used₀ made₀ rows remainders out have used made =
+μ-loop s keys sets reps rows₀ len remainders₀ budget rules front out₀ n goal head have₀ used₀ made₀ rows remainders out have used made =
     budget - made
 
 -- the buffer keeps its length, and has the place of the next step
@@ -58,12 +59,12 @@ unfolding theory.reached
 tested c = ap (member (value (c .before .loop .have))) (sym (c .before .loop .inv .1)) ∙ sym (c .member .ensures)
 
 found : (c : tie.After-next Inv-loop μ-loop)
-    → c .next .result ≡ theory.nextNumber (entryAt (now (c .before .before .before .before .before .before .before .before .before .before .args .s))) (countOf (now (c .before .before .before .before .before .before .before .before .before .before .args .s))) (stateOf (c .before .before .before .before .loop .have) (c .before .before .before .before .loop .rows) (c .before .before .before .before .loop .used))
+    → c .next .result ≡ theory.nextNumber (switches (c .before .before .before .before .before .before .before .before .before .before .args .rules)) (entryAt (now (c .before .before .before .before .before .before .before .before .before .before .args .s))) (countOf (now (c .before .before .before .before .before .before .before .before .before .before .args .s))) (stateOf (c .before .before .before .before .loop .have) (c .before .before .before .before .loop .rows) (c .before .before .before .before .loop .used))
 found c =
     let a = c .before .before .before .before in
     let s = a .before .before .before .before .before .before in
-    c .next .ensures ∙ ap (searchLeast (value (a .loop .have)) (now (s .args .keys)) (now (s .args .reps)) (a .loop .remainders)) (a .loop .inv .0)
-    ∙ sheet-next (now (s .args .s)) (s .pre .good) (λ j. a .before .before .before .before .before .shared-slice-known .given j .fits) (now (s .args .keys)) (now (s .args .sets)) (now (s .args .reps)) (s .pre .right)
+    c .next .ensures ∙ ap (searchLeast (switches (s .args .rules)) (value (a .loop .have)) (now (s .args .keys)) (now (s .args .reps)) (a .loop .remainders)) (a .loop .inv .0)
+    ∙ sheet-next (switches (s .args .rules)) (now (s .args .s)) (s .pre .good) (λ j. a .before .before .before .before .before .shared-slice-known .given j .fits) (now (s .args .keys)) (now (s .args .sets)) (now (s .args .reps)) (s .pre .right)
     (a .loop .have) (a .loop .rows) (a .loop .used) (a .loop .remainders) (a .loop .inv .3 .cache)
 
 spent : (c : tie.Then3 Inv-loop μ-loop) → c .before .before .before .before .before .before .before .before .before .before .before .before .args .budget - c .before .before .before .before .before .before .loop .made ≡ 0
@@ -119,7 +120,7 @@ loop-holds c = let s = c .before .before .before .before .before in (
   c .before .before .count .ensures,
   ap (λ (i : ℕ). getD (now (s .args .reps)) i 0) (c .before .goal .ensures) ∙ s .pre .right .rep (goalOf (now (s .args .s))) (good (now (s .args .s)) (s .pre .good) .goal),
   s .pre,
-  along-start (now (s .args .s)) (now (s .args .keys)) (now (s .args .sets)) (now (s .args .reps)) (s .args .known) (now (s .args .rows)) (s .args .len) (now (s .args .remainders)) (s .args .budget) (s .args .front) (now (s .args .out)) (s .pre),
+  along-start (switches (s .args .rules)) (now (s .args .s)) (now (s .args .keys)) (now (s .args .sets)) (now (s .args .reps)) (s .args .known) (now (s .args .rows)) (s .args .len) (now (s .args .remainders)) (s .args .budget) (s .args .front) (now (s .args .out)) (s .pre),
   rows-first s,
 )
 
@@ -133,7 +134,7 @@ same-length : tie.Need-same-length Inv-loop μ-loop
 same-length c = kept (c .before .before .before)
 
 returns : tie.Need-returns Inv-loop μ-loop
-returns c = along-end (c .before .before .before .loop .inv .3) Derivable (c .end-as .ensures) (machine-derivable (entryAt (now (c .before .before .before .before .before .before .before .before .before .args .s))) (countOf (now (c .before .before .before .before .before .before .before .before .before .args .s))) (goalOf (now (c .before .before .before .before .before .before .before .before .before .args .s))) (stateOf (c .before .before .before .loop .have) (c .before .before .before .loop .rows) (c .before .before .before .loop .used)) (c .before .before .before .before .before .before .before .before .before .args .budget - c .before .before .before .loop .made) (tested (c .before .before) ∙ c .before .if1 .taken))
+returns c = along-end (c .before .before .before .loop .inv .3) Derivable (c .end-as .ensures) (machine-derivable (switches (c .before .before .before .before .before .before .before .before .before .args .rules)) (entryAt (now (c .before .before .before .before .before .before .before .before .before .args .s))) (countOf (now (c .before .before .before .before .before .before .before .before .before .args .s))) (goalOf (now (c .before .before .before .before .before .before .before .before .before .args .s))) (stateOf (c .before .before .before .loop .have) (c .before .before .before .loop .rows) (c .before .before .before .loop .used)) (c .before .before .before .before .before .before .before .before .before .args .budget - c .before .before .before .loop .made) (tested (c .before .before) ∙ c .before .if1 .taken))
 
 next-requires : tie.Need-next-requires Inv-loop μ-loop
 next-requires c κs = few (c .before .before .before)
@@ -145,7 +146,7 @@ same-length-2 : tie.Need-same-length-2 Inv-loop μ-loop
 same-length-2 c = kept (c .before .before .before .before .before .before)
 
 returns-2 : tie.Need-returns-2 Inv-loop μ-loop
-returns-2 c = along-end (c .before .before .before .before .before .before .loop .inv .3) Underivable (c .end-as2 .ensures) (machine-underivable (entryAt (now (c .before .before .before .before .before .before .before .before .before .before .before .before .args .s))) (countOf (now (c .before .before .before .before .before .before .before .before .before .before .before .before .args .s))) (goalOf (now (c .before .before .before .before .before .before .before .before .before .before .before .before .args .s))) (stateOf (c .before .before .before .before .before .before .loop .have) (c .before .before .before .before .before .before .loop .rows) (c .before .before .before .before .before .before .loop .used)) (c .before .before .before .before .before .before .before .before .before .before .before .before .args .budget - c .before .before .before .before .before .before .loop .made) (tested (c .before .before .before .before .before) ∙ c .before .before .before .before .if1 .left) (sym (found (c .before .before)) ∙ c .before .if2 .taken))
+returns-2 c = along-end (c .before .before .before .before .before .before .loop .inv .3) Underivable (c .end-as2 .ensures) (machine-underivable (switches (c .before .before .before .before .before .before .before .before .before .before .before .before .args .rules)) (entryAt (now (c .before .before .before .before .before .before .before .before .before .before .before .before .args .s))) (countOf (now (c .before .before .before .before .before .before .before .before .before .before .before .before .args .s))) (goalOf (now (c .before .before .before .before .before .before .before .before .before .before .before .before .args .s))) (stateOf (c .before .before .before .before .before .before .loop .have) (c .before .before .before .before .before .before .loop .rows) (c .before .before .before .before .before .before .loop .used)) (c .before .before .before .before .before .before .before .before .before .before .before .before .args .budget - c .before .before .before .before .before .before .loop .made) (tested (c .before .before .before .before .before) ∙ c .before .before .before .before .if1 .left) (sym (found (c .before .before)) ∙ c .before .if2 .taken))
 
 end-as-requires-3 : tie.Need-end-as-requires-3 Inv-loop μ-loop
 end-as-requires-3 c κs = search needs
@@ -154,7 +155,7 @@ same-length-3 : tie.Need-same-length-3 Inv-loop μ-loop
 same-length-3 c = kept (c .before .before .before .before .before .before .before)
 
 returns-3 : tie.Need-returns-3 Inv-loop μ-loop
-returns-3 c = along-end (c .before .before .before .before .before .before .before .loop .inv .3) Exhausted (c .end-as3 .ensures) (ap (λ (b : ℕ). machine (entryAt (now (c .before .before .before .before .before .before .before .before .before .before .before .before .before .args .s))) (countOf (now (c .before .before .before .before .before .before .before .before .before .before .before .before .before .args .s))) (goalOf (now (c .before .before .before .before .before .before .before .before .before .before .before .before .before .args .s))) b (stateOf (c .before .before .before .before .before .before .before .loop .have) (c .before .before .before .before .before .before .before .loop .rows) (c .before .before .before .before .before .before .before .loop .used))) (spent (c .before)) ∙ machine-exhausted (entryAt (now (c .before .before .before .before .before .before .before .before .before .before .before .before .before .args .s))) (countOf (now (c .before .before .before .before .before .before .before .before .before .before .before .before .before .args .s))) (goalOf (now (c .before .before .before .before .before .before .before .before .before .before .before .before .before .args .s))) (stateOf (c .before .before .before .before .before .before .before .loop .have) (c .before .before .before .before .before .before .before .loop .rows) (c .before .before .before .before .before .before .before .loop .used)) (tested (c .before .before .before .before .before .before) ∙ c .before .before .before .before .before .if1 .left) (λ z. c .before .before .if2 .left (found (c .before .before .before) ∙ z)))
+returns-3 c = along-end (c .before .before .before .before .before .before .before .loop .inv .3) Exhausted (c .end-as3 .ensures) (ap (λ (b : ℕ). machine (switches (c .before .before .before .before .before .before .before .before .before .before .before .before .before .args .rules)) (entryAt (now (c .before .before .before .before .before .before .before .before .before .before .before .before .before .args .s))) (countOf (now (c .before .before .before .before .before .before .before .before .before .before .before .before .before .args .s))) (goalOf (now (c .before .before .before .before .before .before .before .before .before .before .before .before .before .args .s))) b (stateOf (c .before .before .before .before .before .before .before .loop .have) (c .before .before .before .before .before .before .before .loop .rows) (c .before .before .before .before .before .before .before .loop .used))) (spent (c .before)) ∙ machine-exhausted (switches (c .before .before .before .before .before .before .before .before .before .before .before .before .before .args .rules)) (entryAt (now (c .before .before .before .before .before .before .before .before .before .before .before .before .before .args .s))) (countOf (now (c .before .before .before .before .before .before .before .before .before .before .before .before .before .args .s))) (goalOf (now (c .before .before .before .before .before .before .before .before .before .before .before .before .before .args .s))) (stateOf (c .before .before .before .before .before .before .before .loop .have) (c .before .before .before .before .before .before .before .loop .rows) (c .before .before .before .before .before .before .before .loop .used)) (tested (c .before .before .before .before .before .before) ∙ c .before .before .before .before .before .if1 .left) (λ z. c .before .before .if2 .left (found (c .before .before .before) ∙ z)))
 
 cast-from : tie.Need-cast-from Inv-loop μ-loop
 cast-from c = search needs
@@ -195,14 +196,14 @@ loop-again c = let a = c .before .before .before .before .before .before .before
     let some = c .before .before .before .before .before .before .before .before .if2 .left in
     let sh = now (s .args .s) in
     let bytes : (j : ℕ) → getD sh j 0 < 256 = λ j. c .before .before .before .before .before .before .before .before .before .before .before .before .before .before .before .before .before .before .shared-slice-known .given j .fits in
-    let hd = sheet-head sh (s .pre .good) bytes (now (s .args .keys)) (now (s .args .sets)) (now (s .args .reps)) (s .pre .right) k x f some in (
+    let hd = sheet-head (switches (s .args .rules)) sh (s .pre .good) bytes (now (s .args .keys)) (now (s .args .sets)) (now (s .args .reps)) (s .pre .right) k x f some in (
       c .before .before .before .before .before .before .before .before .before .before .before .before .before .before .before .before .count .ensures,
       a .loop .inv .1,
       s .pre,
       along-step (a .loop .inv .3) (less (c .before .before .before .before .before .before .before)) (omega (arith, s .pre .space)) (tested (c .before .before .before .before .before .before .before .before .before .before .before .before) ∙ c .before .before .before .before .before .before .before .before .before .before .before .if1 .left) x f some
           (stepIn (now (s .args .keys)) (now (s .args .sets)) (rowsOf (a .loop .rows) (a .loop .used)) x)
-          (sheet-step sh (s .pre .good) bytes (now (s .args .keys)) (now (s .args .sets)) (now (s .args .reps)) (s .pre .right) k x f some)
-          (x / 65536 % 256) (value (getD (now (s .args .sets)) (x / 65536 % 256) [])) hd (s .pre .right .set (x / 65536 % 256) (subst (λ (i : ℕ). i < countOf sh) (sym hd) (sheet-below sh (s .pre .good) bytes (now (s .args .keys)) (now (s .args .sets)) (now (s .args .reps)) (s .pre .right) k x f some)))
+          (sheet-step (switches (s .args .rules)) sh (s .pre .good) bytes (now (s .args .keys)) (now (s .args .sets)) (now (s .args .reps)) (s .pre .right) k x f some)
+          (x / 65536 % 256) (value (getD (now (s .args .sets)) (x / 65536 % 256) [])) hd (s .pre .right .set (x / 65536 % 256) (subst (λ (i : ℕ). i < countOf sh) (sym hd) (sheet-below (switches (s .args .rules)) sh (s .pre .good) bytes (now (s .args .keys)) (now (s .args .sets)) (now (s .args .reps)) (s .pre .right) k x f some)))
           _ _ _ _ _ (m .ensures .1 .0) (part-back (a .loop .out) (s .args .front + 40 * a .loop .made) (stepBytes (stepIn (now (s .args .keys)) (now (s .args .sets)) (rowsOf (a .loop .rows) (a .loop .used)) x)) (m .last .1 .1 .1 .1 .1 .1 .1 .1 .0) (m .ensures .0)) (m .ensures .1 .1 .0) (m .ensures .1 .1 .1 .0)
           (subst (λ (n : ℕ). (g : ℕ → ℕ) → Remainders g n (a .loop .rows) (a .loop .used) (a .loop .remainders) → Remainders g n (m .last .1 .1 .1 .1 .0) (m .result .len) (m .last .1 .1 .1 .1 .1 .1 .0)) (a .loop .inv .0) (m .ensures .1 .1 .1 .1 .0))
           (subst (λ (n : ℕ). SameOutside 0 n (a .loop .remainders) (m .last .1 .1 .1 .1 .1 .1 .0)) (a .loop .inv .0) (m .ensures .1 .1 .1 .1 .1)),

@@ -1,11 +1,12 @@
--- `verdict::front::missing` meets its contract: the sum test at out of reach, and else two empty sets.
+-- `verdict::front::missing` meets its contract: what is missing at out of reach, and else two empty sets.
 use mathlib.Core.Path.{sym, _∙_}
 use borrow.Author.Needs.{needs}
 use denote.Ref.{now}
 use Rattle.bitset.specs.Words.{value}
-use Rattle.deduction.specs.Elimination.{reduce}
+use Rattle.deduction.specs.Setting.{switches}
 use Rattle.knowledge.specs.Inner.Rows.{rowsOf}
 use Rattle.derive.specs.Inner.Ran.{verdictOf}
+use Rattle.verdict.specs.Answer.{missingBy}
 use Rattle.verdict.proofs.Laws.Front.{missing-tested, missing-nothing}
 use Rattle.verdict.proofs.front.missing.Statement.{statement}
 use Rattle.verdict.proofs.front.missing.Tie as tie
@@ -13,12 +14,14 @@ use Rattle.verdict.proofs.front.missing.Tie as tie
 is-underivable-requires : tie.Need-is-underivable-requires
 is-underivable-requires c κs = search needs
 
-reduce-requires : tie.Need-reduce-requires
-reduce-requires c κs = search needs
+missing-by-requires : tie.Need-missing-by-requires
+missing-by-requires c κs = search needs
 
 returns : tie.Need-returns
 returns c = let s = c .before .before .before .args in
-    c .reduce .ensures ∙ missing-tested (verdictOf (s .verdict)) (reduce (rowsOf (now (s .rows)) (s .len)) (value (s .goal))) (sym (c .before .before .is-underivable .ensures) ∙ c .before .if1 .taken)
+    c .missing-by .ensures
+    ∙ missing-tested (verdictOf (s .verdict)) (missingBy (switches (s .rules)) (rowsOf (now (s .rows)) (s .len)) (value (s .goal)))
+    (sym (c .before .before .is-underivable .ensures) ∙ c .before .if1 .taken)
 
 empty-requires : tie.Need-empty-requires
 empty-requires c κs = search needs
@@ -29,14 +32,15 @@ empty-requires-2 c κs = search needs
 returns-2 : tie.Need-returns-2
 returns-2 c = let s = c .before .before .before .before .args in
     (λ i. record { remainder = c .before .empty .ensures i; used = c .empty2 .ensures i })
-    ∙ missing-nothing (verdictOf (s .verdict)) (reduce (rowsOf (now (s .rows)) (s .len)) (value (s .goal))) (sym (c .before .before .before .is-underivable .ensures) ∙ c .before .before .if1 .left)
+    ∙ missing-nothing (verdictOf (s .verdict)) (missingBy (switches (s .rules)) (rowsOf (now (s .rows)) (s .len)) (value (s .goal)))
+    (sym (c .before .before .before .is-underivable .ensures) ∙ c .before .before .if1 .left)
 
 pub missing-spec : {M : Type 1} → statement M
 missing-spec =
     tie.close
     (tie.spec
     is-underivable-requires
-    reduce-requires
+    missing-by-requires
     returns
     empty-requires
     empty-requires-2
