@@ -1,0 +1,4 @@
+pub mod Switch
+pub mod More
+pub mod Cases
+pub mod Refuted

@@ -1,0 +1,3 @@
+-- Reading order: which byte of switches has every switch of another; the cases.
+pub mod Switch
+pub mod Cases
