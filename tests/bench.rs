@@ -1,6 +1,7 @@
 // The library beside plain Rust with the same algorithm, on the worst sheets and on random ones: interleaved in one run, the median of many
 // calls each, and the exponent by which the time grows with the number of entries. Plain Rust is measured in two forms: a heard message takes
-// the state by value and hands it back, as in the library, or the state is lent. Not part of the gate: it measures, and judges nothing.
+// the state by value and hands it back, as in the library, or the state is lent. The library's verdict with a setting is measured beside its full verdict,
+// with every rule on. Not part of the gate: it measures, and judges nothing.
 
 #[allow(dead_code)]
 mod sheets;
@@ -15,11 +16,17 @@ use std::time::Instant;
 
 extern "C" {
     fn zuwendryk_verdict(sheet: *const u8, sheet_len: usize, cut: u32, budget: u32, buffer: *mut u8, buffer_len: usize) -> u32;
+    fn zuwendryk_limited_verdict(sheet: *const u8, sheet_len: usize, cut: u32, budget: u32, rules: u8, buffer: *mut u8, buffer_len: usize) -> u32;
 }
 
 fn library(s: &[u8], cut: u32, budget: u32, out: &mut [u8]) -> u32 {
     // Both areas are slices, so neither pointer is null and they don't overlap.
     unsafe { zuwendryk_verdict(s.as_ptr(), s.len(), cut, budget, out.as_mut_ptr(), out.len()) }
+}
+
+// The verdict with a setting that has every rule.
+fn with_every_rule(s: &[u8], cut: u32, budget: u32, out: &mut [u8]) -> u32 {
+    unsafe { zuwendryk_limited_verdict(s.as_ptr(), s.len(), cut, budget, 255, out.as_mut_ptr(), out.len()) }
 }
 
 fn median(mut times: Vec<f64>) -> f64 {
@@ -29,19 +36,19 @@ fn median(mut times: Vec<f64>) -> f64 {
 
 type Call = fn(&[u8], u32, u32, &mut [u8]) -> u32;
 
-// The answer, and the microseconds of the library and of plain Rust by value and lent.
-fn measure(s: &[u8], cut: u32) -> (u32, [f64; 3]) {
-    let calls: [Call; 3] = [library, plain::verdict_by_value, plain::verdict];
-    let mut answers = [0; 3];
-    let mut outs = [(); 3].map(|_| vec![0u8; FRONT + 40 * 256]);
-    let mut times = [vec![], vec![], vec![]];
+// The answer, and the microseconds of the library, of plain Rust by value and lent, and of the library's verdict with every rule on.
+fn measure(s: &[u8], cut: u32) -> (u32, [f64; 4]) {
+    let calls: [Call; 4] = [library, plain::verdict_by_value, plain::verdict, with_every_rule];
+    let mut answers = [0; 4];
+    let mut outs = [(); 4].map(|_| vec![0u8; FRONT + 40 * 256]);
+    let mut times = [vec![], vec![], vec![], vec![]];
     for _ in 0..200 {
         for (i, call) in calls.iter().enumerate() {
             let begin = Instant::now();
             answers[i] = call(s, cut, 256, &mut outs[i]);
             times[i].push(begin.elapsed().as_secs_f64() * 1e6);
         }
-        assert!((1..3).all(|i| answers[i] == answers[0] && outs[i] == outs[0]), "the library and plain Rust differ");
+        assert!((1..4).all(|i| answers[i] == answers[0] && outs[i] == outs[0]), "the library and plain Rust differ");
     }
     (answers[0], times.map(median))
 }
@@ -92,15 +99,16 @@ fn main() {
         ("locks", kinds::locks),
         ("openers", kinds::openers),
     ];
-    println!("                              plain Rust, us            ratio to");
-    println!("sheet       n   library us   by value       lent   by value   lent   verdict and rungs");
+    println!("                              plain Rust, us            ratio to          with a setting, ratio");
+    println!("sheet       n   library us   by value       lent   by value   lent       us   to the verdict   verdict and rungs");
     for (name, make) in kinds {
         let mut times = vec![];
         for n in [32, 64, 128, 256] {
             let (entries, heard, goal) = make(n);
-            let (answer, [ours, by_value, lent]) = measure(&sheet(&entries, &heard, goal), heard.len() as u32);
+            let (answer, [ours, by_value, lent, set]) = measure(&sheet(&entries, &heard, goal), heard.len() as u32);
             let verdict = if answer < 2000 { "reached" } else { "out of reach" };
-            println!("{name:8} {n:4} {ours:12.1} {by_value:10.1} {lent:10.1} {:10.2} {:6.2}   {verdict} {}", ours / by_value, ours / lent, answer % 1000);
+            let ratios = format!("{:10.2} {:6.2} {set:8.1} {:16.2}", ours / by_value, ours / lent, set / ours);
+            println!("{name:8} {n:4} {ours:12.1} {by_value:10.1} {lent:10.1} {ratios}   {verdict} {}", answer % 1000);
             times.push(ours);
         }
         println!("{name:8} grows with n to the power {:.2} from 64 to 256", (times[3] / times[1]).ln() / 4f64.ln());

@@ -16,7 +16,7 @@ mod plain;
 mod reading;
 mod records;
 use larger::Larger;
-use reading::{add, all_sums, expected, highest, members, missing_part, read, replay, set_bytes, standard, work, Answer, Set, Term};
+use reading::{add, all_sums, expected, highest, members, missing_part, read, replay, set_bytes, standard, work, Answer, Set, Term, EVERY_RULE};
 use sheets::{damage, random_entries, sheet, Entry, Random, ATOMS, FRONT};
 
 extern "C" {
@@ -290,7 +290,7 @@ fn larger_sheets(t: &mut Tally) {
                 let mut buffer = vec![0xa5; FRONT + 40 * budget];
                 let answer = verdict(&s, cut as u32, budget as u32, &mut buffer);
                 t.calls += 1;
-                if !larger.judged(cut, answer, &buffer) || !larger.holds(cut, answer, &buffer) {
+                if !larger.judged(EVERY_RULE, cut, answer, &buffer) || !larger.holds(EVERY_RULE, cut, answer, &buffer) {
                     let sets = [0..32, 32..64, 64..FRONT].map(|place| members(&buffer[place]));
                     t.fail(&format!("{entries:?} heard {heard:?} goal {goal} cut {cut} budget {budget}: {answer}, gained, used and remainder {sets:?}"));
                 }

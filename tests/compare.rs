@@ -7,12 +7,13 @@ mod sheets;
 #[allow(dead_code)]
 mod kinds;
 use kinds::Parts;
-use sheets::{damage, full_sheet, random_entries, refusal, refusal_by, sheet, Entry, Random, ATOM_LENGTHS, FRONT, LONGEST};
+use sheets::{damage, full_sheet, lock_entries, random_entries, refusal, sheet, Entry, Random, FRONT};
 use std::process::Command;
 
 extern "C" {
     fn zuwendryk_verdict(sheet: *const u8, sheet_len: usize, cut: u32, budget: u32, buffer: *mut u8, buffer_len: usize) -> u32;
     fn zuwendryk_validate(sheet: *const u8, sheet_len: usize) -> u32;
+    fn zuwendryk_limited_verdict(sheet: *const u8, sheet_len: usize, cut: u32, budget: u32, rules: u8, buffer: *mut u8, buffer_len: usize) -> u32;
     fn earlier_verdict(sheet: *const u8, sheet_len: usize, cut: u32, budget: u32, buffer: *mut u8, buffer_len: usize) -> u32;
     fn earlier_validate(sheet: *const u8, sheet_len: usize) -> u32;
 }
@@ -26,30 +27,28 @@ fn earlier(s: &[u8], cut: u32, budget: u32, out: &mut [u8]) -> u32 {
     unsafe { earlier_verdict(s.as_ptr(), s.len(), cut, budget, out.as_mut_ptr(), out.len()) }
 }
 
-// ---- answers and bytes
-
-// What the change leaves alone, to be said anew for each change. Request E6 adds the kinds 5, 6 and 7, and with them refusal 12 and the rules 7 and 8. So
-// answers and buffers are the earlier ones on each sheet in whose records, as far as the table looks, no kind is 5 to 7.
-//
-// Another sheet is left out where the two tables, the earlier and the present, give different numbers, and this is exact: there the answers have to
-// differ. Where both refuse the sheet with one number, each library has to answer it. Where neither refuses it, the earlier table says that it has no
-// record of a kind over 4. Whether it is left out or not, each library is held to its own table.
-fn refusal_earlier(s: &[u8]) -> u32 {
-    refusal_by(s, LONGEST, &ATOM_LENGTHS, 4)
+fn with_every_rule(s: &[u8], cut: u32, budget: u32, out: &mut [u8]) -> u32 {
+    unsafe { zuwendryk_limited_verdict(s.as_ptr(), s.len(), cut, budget, EVERY_RULE, out.as_mut_ptr(), out.len()) }
 }
 
-// Has the good sheet a record of kind 5 to 7?
+// ---- answers and bytes
+
+// What the change leaves alone, to be said anew for each change. Request E11 adds a call, the verdict with a setting, and "all other calls have every rule
+// on". So no sheet is left out: both earlier calls answer as they did, with the same bytes, and the new one answers as they do where every rule is on.
+const EVERY_RULE: u8 = 255;
+
+// Has the sheet, good or not, a record of kind 5 to 7 in a place that is on the sheet?
 fn has_locks(s: &[u8]) -> bool {
     let number = |at: usize| usize::from(u16::from_be_bytes([s[at], s[at + 1]]));
-    (0..number(4)).any(|i| matches!(s[number(10 + 4 * i)], 5..=7))
+    !matches!(refusal(s), 1..=4) && (0..number(4)).any(|i| matches!(s[number(10 + 4 * i)], 5..=7))
 }
 
 #[derive(Default)]
 struct Tally {
     verdicts: [u64; 4], // refused, reached, out of reach, stopped
+    locks: [u64; 4],    // those of sheets with halves or locks
     sheets: u64,
-    left_out: u64,
-    now_good: u64, // of those left out
+    good: u64,
     failed: u64,
 }
 
@@ -61,32 +60,29 @@ impl Tally {
         }
     }
 
-    // One call of each, with the same bytes in its buffer.
+    // One call of each, with the same bytes in its buffer: the verdict, the earlier one, and the verdict with every rule on.
     fn call(&mut self, s: &[u8], cut: u32, budget: u32, length: usize) {
         let before: Vec<u8> = (0..length).map(|i| (i * 37 + 11) as u8).collect();
-        let mut outs = [before.clone(), before.clone()];
-        let answers = [now(s, cut, budget, &mut outs[0]), earlier(s, cut, budget, &mut outs[1])];
-        self.verdicts[(answers[0] / 1000).min(3) as usize] += 1;
+        let mut outs = [before.clone(), before.clone(), before.clone()];
+        let calls: [fn(&[u8], u32, u32, &mut [u8]) -> u32; 3] = [now, earlier, with_every_rule];
+        let answers = [0, 1, 2].map(|i| calls[i](s, cut, budget, &mut outs[i]));
+        let verdict = (answers[0] / 1000).min(3) as usize;
+        self.verdicts[verdict] += 1;
+        self.locks[verdict] += u64::from(has_locks(s));
         let kept = answers[0] >= 1000 || outs[0] == before;
-        if answers[0] != answers[1] || outs[0] != outs[1] || !kept {
-            let same = outs[0] == outs[1];
-            self.fail(&format!("sheet {s:?} cut {cut} budget {budget}, {length} bytes: answers {answers:?}, same bytes: {same}, kept where refused: {kept}"));
+        let same = [1, 2].map(|i| answers[i] == answers[0] && outs[i] == outs[0]);
+        if same != [true; 2] || !kept {
+            self.fail(&format!("sheet {s:?} cut {cut} budget {budget}, {length} bytes: answers {answers:?}, same: {same:?}, kept where refused: {kept}"));
         }
     }
 
-    // One sheet: whether it is good, and, unless it is left out, verdicts at several cuts, budgets and lengths.
+    // One sheet: whether it is good, and verdicts at several cuts, budgets and lengths.
     fn sheet(&mut self, s: &[u8], r: &mut Random) {
         self.sheets += 1;
-        let validated = unsafe { [zuwendryk_validate(s.as_ptr(), s.len()), earlier_validate(s.as_ptr(), s.len())] };
-        let tables = [refusal(s), refusal_earlier(s)];
-        if validated != tables {
-            self.fail(&format!("sheet {s:?}: validate now and earlier {validated:?}, by the tables {tables:?}"));
-        }
-        if tables[0] != tables[1] {
-            self.left_out += 1;
-            self.now_good += u64::from(tables[0] == 0);
-            self.own_tables(s, tables, r);
-            return;
+        let (validated, table) = (unsafe { [zuwendryk_validate(s.as_ptr(), s.len()), earlier_validate(s.as_ptr(), s.len())] }, refusal(s));
+        self.good += u64::from(table == 0);
+        if validated != [table; 2] {
+            self.fail(&format!("sheet {s:?}: validate now and earlier {validated:?}, by the table {table}"));
         }
         let h = if s.len() >= 8 { u32::from(u16::from_be_bytes([s[6], s[7]])).min(256) } else { 0 };
         for cut in [0, h / 3, h, h + 1] {
@@ -97,27 +93,11 @@ impl Tally {
         }
     }
 
-    // A sheet that is left out: each library's verdict is refused with the number of its own table and keeps every byte, or it is a verdict where that
-    // table has none.
-    fn own_tables(&mut self, s: &[u8], tables: [u32; 2], r: &mut Random) {
-        let budget = r.below(257) as u32;
-        let before: Vec<u8> = (0..FRONT + 40 * budget as usize).map(|i| (i * 37 + 11) as u8).collect();
-        let calls: [fn(&[u8], u32, u32, &mut [u8]) -> u32; 2] = [now, earlier];
-        for (call, table) in calls.into_iter().zip(tables) {
-            let mut out = before.clone();
-            let answer = call(s, 0, budget, &mut out);
-            if if table == 0 { answer < 1000 } else { answer != table || out != before } {
-                self.fail(&format!("sheet {s:?} budget {budget}: answers {answer}, by its own table {table}, bytes kept: {}", out == before));
-            }
-        }
-    }
-
-    // A good sheet that the change leaves alone; the same with locks, which it doesn't; and a damaged one of each, of which either may hold.
+    // A good sheet; the same with halves and locks in more places, some of them refused; and a damaged one of each.
     fn all(&mut self, good: Vec<u8>, r: &mut Random) {
-        let left_out = self.left_out;
         self.sheet(&good, r);
-        if self.left_out > left_out || refusal(&good) != 0 || has_locks(&good) {
-            self.fail(&format!("sheet {good:?} is refused, left out or has locks"));
+        if refusal(&good) != 0 {
+            self.fail(&format!("sheet {good:?} is refused"));
         }
         let locked = with_locks(&good);
         self.sheet(&locked, r);
@@ -145,28 +125,22 @@ fn with_locks(s: &[u8]) -> Vec<u8> {
     t
 }
 
-// The sheet without locks: an atom for each half, a seal for each lock.
 fn made((entries, heard, goal): Parts) -> Vec<u8> {
-    let other = |e: Entry| match e {
-        Entry::Private(a) => Entry::Atom(u32::from(a)),
-        Entry::Public(a) => Entry::Long(65536 + u32::from(a)),
-        Entry::Lock(m, k) => Entry::Seal(m, k),
-        _ => e,
-    };
-    sheet(&entries.into_iter().map(other).collect::<Vec<Entry>>(), &heard, goal)
+    sheet(&entries, &heard, goal)
 }
 
 fn answers(t: &mut Tally) {
     let mut r = Random(0x9e3779b97f4a7c15);
-    for _ in 0..4000 {
-        let parts = random_entries(&mut r, 12);
+    for i in 0..5000 {
+        let parts = if i % 3 == 0 { lock_entries(&mut r) } else { random_entries(&mut r, 12) };
         t.all(made(parts), &mut r);
     }
     for seed in 0..2400 {
         let n = 8 + r.below(249) as usize;
         t.all(made([kinds::drawn, kinds::labelled, kinds::lacking, kinds::locked][seed as usize % 4](n, seed)), &mut r);
     }
-    for kind in [kinds::joins, kinds::sums, kinds::seals, kinds::mixed, kinds::stuck, kinds::names, kinds::serials, kinds::longest] {
+    let kinds = [kinds::joins, kinds::sums, kinds::seals, kinds::mixed, kinds::stuck, kinds::names, kinds::serials, kinds::longest];
+    for kind in kinds.into_iter().chain([kinds::locks, kinds::openers]) {
         for n in (32..=256).step_by(2) {
             t.all(made(kind(n)), &mut r);
         }
@@ -175,11 +149,6 @@ fn answers(t: &mut Tally) {
     for i in 0..50 {
         t.all(full_sheet(Entry::Long(65536 + 1001), [255, 254], i), &mut r);
         t.all(full_sheet(Entry::Atom(1001), [255, 254], i), &mut r);
-    }
-    // good sheets with locks, which the earlier library refuses
-    for _ in 0..1000 {
-        let (entries, heard, goal) = random_entries(&mut r, 12);
-        t.sheet(&sheet(&entries, &heard, goal), &mut r);
     }
 }
 
@@ -234,10 +203,10 @@ fn main() {
     answers(&mut t);
     let [refused, reached, out, stopped] = t.verdicts;
     let calls = refused + reached + out + stopped;
-    println!("compare: {} sheets, of which {} are left out, since the change has another answer for them", t.sheets, t.left_out);
-    println!("compare: {} of those left out are good now", t.now_good);
+    println!("compare: {} sheets, {} of them good; none is left out", t.sheets, t.good);
+    println!("compare: with halves or locks {} reached, {} out of reach, {} stopped, {} refused", t.locks[1], t.locks[2], t.locks[3], t.locks[0]);
     println!("compare: {calls} calls, {reached} reached, {out} out of reach, {stopped} stopped, {refused} refused; {} failed", t.failed);
-    if t.failed > 0 || t.verdicts.iter().any(|&v| v < 10_000) || t.left_out < 1000 || t.now_good < 1000 {
+    if t.failed > 0 || t.verdicts.iter().chain(&t.locks).any(|&v| v < 10_000) {
         std::process::exit(1);
     }
     times(&std::env::args().skip(1).collect::<Vec<String>>());

@@ -86,8 +86,21 @@ static void version(void) {
     expect("the version's text, compared with its numbers,", strcmp(text, ZUWENDRYK_VERSION) == 0, 1);
 }
 
+/* The switches, and the header's own expressions as a byte. */
+static void switches(void) {
+    static const size_t expected[] = {1, 2, 4, 8, 16, 32, 64, 128};
+    const uint8_t no_sum = ZUWENDRYK_EVERY_RULE & ~ZUWENDRYK_SWITCH(ZUWENDRYK_RULE_SUM), open = ZUWENDRYK_SWITCH(ZUWENDRYK_RULE_OPEN);
+    for (size_t rule = ZUWENDRYK_RULE_LEFT; rule <= ZUWENDRYK_RULE_LOCK; rule++)
+        expect("a switch", ZUWENDRYK_SIZE(ZUWENDRYK_SWITCH(rule)), expected[rule - 1]);
+    expect("every rule but sum", no_sum, 223);
+    expect("open alone", open, 4);
+    expect("the limited answer to a sheet of zeros", zuwendryk_limited_verdict(sheet, sizeof sheet, 0, 0, no_sum, buffer, sizeof buffer),
+           ZUWENDRYK_NO_SHEET);
+}
+
 int main(void) {
     sizes();
+    switches();
     version();
     atoms();
     halves();

@@ -295,7 +295,7 @@ fn examples(c: &mut Tally, p: &Paths) {
     let files = fs::read_dir(p.root.join("examples")).expect("the examples are there").filter_map(|file| Some(file.ok()?.path()));
     let mut sheets: Vec<PathBuf> = files.filter(|path| path.extension().map_or(false, |end| end == "sheet")).collect();
     sheets.sort();
-    c.check("the examples are there", sheets.len() >= 42);
+    c.check("the examples are there", sheets.len() >= 44);
     sheets.iter().for_each(|path| example(c, p, path));
 }
 

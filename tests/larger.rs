@@ -1,8 +1,8 @@
 // What the documents say of a call's answer and bytes, checked of a sheet on which sums can't be tried one by one: by the reading's terms where one sum is
 // meant, by ranks where every sum is. The rungs replay, nothing follows where the goal is out of reach, and used set and remainder are those of document
-// 02, E5. It shares no code with the library.
+// 02, E5, all by the rules that the setting of E11 has. It shares no code with the library.
 
-use super::reading::{add, heads, is_standard, members, read, replay, single, standard, standard_set, start, Piece, Set, Sheet, Term};
+use super::reading::{add, heads, is_standard, members, read, replay, single, standard, standard_set, start, uses_only, Piece, Set, Setting, Sheet, Term};
 use super::sheets::FRONT;
 use std::collections::BTreeSet;
 use std::rc::Rc;
@@ -88,14 +88,15 @@ impl Larger {
     }
 
     // Does a rung follow by a rule other than sum from these terms?
-    fn follows(&self, gained: &BTreeSet<Term>) -> bool {
-        let has = |t: &Term| gained.contains(t);
+    fn follows(&self, setting: Setting, gained: &BTreeSet<Term>) -> bool {
+        let (has, on) = (|t: &Term| gained.contains(t), |rule: usize| setting.has(rule));
         self.sheet.terms.iter().filter_map(|t| Some((has(t), single(t)?))).any(|(known, piece)| match (known, piece) {
-            (true, Piece::Pair(l, r)) => !has(l) || !has(r),
-            (true, Piece::Seal(m, k)) => has(k) && !has(m),
-            (true, Piece::Lock(m, k)) => has(&k.opposite().term()) && !has(m),
-            (false, Piece::Pair(a, b) | Piece::Seal(a, b)) => has(a) && has(b),
-            (false, Piece::Lock(m, k)) => has(m) && has(&k.term()),
+            (true, Piece::Pair(l, r)) => (on(1) && !has(l)) || (on(2) && !has(r)),
+            (true, Piece::Seal(m, k)) => on(3) && has(k) && !has(m),
+            (true, Piece::Lock(m, k)) => on(7) && has(&k.opposite().term()) && !has(m),
+            (false, Piece::Pair(l, r)) => on(4) && has(l) && has(r),
+            (false, Piece::Seal(m, k)) => on(5) && has(m) && has(k),
+            (false, Piece::Lock(m, k)) => on(8) && has(m) && has(&k.term()),
             _ => false,
         })
     }
@@ -106,14 +107,17 @@ impl Larger {
         (0..self.sets.len()).any(|e| !gained.contains(&self.heads[e]) && rest(&rows, &bits(&self.sets[e])) == [0; 2])
     }
 
-    // Is the verdict that of its rungs? They replay; the goal is gained at their end exactly where it is reached; otherwise another rung follows exactly
-    // where the call stopped.
-    pub fn judged(&self, cut: usize, answer: u32, buffer: &[u8]) -> bool {
+    // Is the verdict that of its rungs? They replay, by rules that the setting has; the goal is gained at their end exactly where it is reached; otherwise
+    // another rung follows exactly where the call stopped.
+    pub fn judged(&self, setting: Setting, cut: usize, answer: u32, buffer: &[u8]) -> bool {
         let (rungs, made) = (&buffer[FRONT..], answer as usize % 1000);
         let gained = self.gained(cut, rungs, made);
         let Some(Ok(state)) = rungs.get(..40 * made).map(|rungs| replay(&self.sheet, cut, rungs)) else { return false };
+        if !uses_only(setting, &rungs[..40 * made]) {
+            return false;
+        }
         let reached = state.contains(&self.sheet.terms[self.sheet.goal]);
-        let more = || self.follows(&state.into_iter().collect()) || self.sum_follows(&gained);
+        let more = || self.follows(setting, &state.into_iter().collect()) || (setting.has_sum() && self.sum_follows(&gained));
         match answer / 1000 {
             1 => reached,
             2 => !reached && !more(),
@@ -121,13 +125,14 @@ impl Larger {
         }
     }
 
-    // Are a call's three sets those of its rungs and its verdict?
-    pub fn holds(&self, cut: usize, answer: u32, buffer: &[u8]) -> bool {
+    // Are a call's three sets those of its rungs and its verdict? Without sum "the used set is then empty and the remainder is the goal's own set".
+    pub fn holds(&self, setting: Setting, cut: usize, answer: u32, buffer: &[u8]) -> bool {
         let gained = self.gained(cut, &buffer[FRONT..], answer as usize % 1000);
         let [known, used, remainder] = [0..32, 32..64, 64..FRONT].map(|place| members(&buffer[place]));
         gained.iter().chain(&used).chain(&remainder).all(|&e| e < self.heads.len())
             && known == gained.iter().copied().collect()
             && match answer / 1000 {
+                2 if !setting.has_sum() => used.is_empty() && remainder == self.sets[self.sheet.goal],
                 2 => !remainder.is_empty() && self.missing_part(&gained, &used, &remainder),
                 _ => used.is_empty() && remainder.is_empty(),
             }

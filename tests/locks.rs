@@ -5,7 +5,7 @@ use super::cards::rung_line;
 use super::kinds::{self, Parts};
 use super::reading::{read, replay, set_bytes};
 use super::records::same_everywhere;
-use super::sheets::{sheet, Entry, Random, FRONT, KEY_PAIRS};
+use super::sheets::{lock_entries, sheet, Entry, Random, FRONT};
 use super::{larger_sheet, plain, verdict, Tally, ROOM};
 use Entry::*;
 
@@ -365,41 +365,7 @@ fn every_entry(t: &mut Tally) {
 
 // ---- sheets at random
 
-fn halves_in(entries: &[Entry]) -> Vec<u16> {
-    (0..entries.len() as u16).filter(|i| matches!(entries[usize::from(*i)], Private(_) | Public(_))).collect()
-}
-
-// Both halves of a key pair or two, atoms, and above them locks, pairs, seals, sums and halves again. What is heard are locks and halves,
-// and the goal is an atom.
-pub fn lock_entries(r: &mut Random) -> Parts {
-    let pairs: Vec<u16> = (0..1 + r.below(2)).map(|_| KEY_PAIRS[r.below(5) as usize]).collect();
-    let mut entries: Vec<Entry> = pairs.iter().flat_map(|p| [Private(*p), Public(*p)]).collect();
-    if r.below(2) == 0 {
-        entries.swap_remove(r.below(2) as usize);
-    }
-    entries.extend((0..1 + r.below(2)).map(|i| Atom(1000 + i as u32)));
-    for _ in 0..2 + r.below(5) {
-        let (i, halves) = (entries.len() as u64, halves_in(&entries));
-        let (a, b) = (r.below(i) as u16, r.below(i) as u16);
-        entries.push(match r.below(10) {
-            0 => Pair(a, b),
-            1 => Seal(a, b),
-            2..=3 => Sum((0..1 + r.below(3)).map(|_| r.below(i) as u16).collect()),
-            4..=5 => [Private, Public][r.below(2) as usize](pairs[0]),
-            _ => Lock(a, halves[r.below(halves.len() as u64) as usize]),
-        });
-    }
-    let (n, halves) = (entries.len() as u64, halves_in(&entries));
-    let of_kind = |kind: fn(&Entry) -> bool| (0..n as u16).filter(|i| kind(&entries[usize::from(*i)])).collect::<Vec<u16>>();
-    let (locks, atoms) = (of_kind(|e| matches!(e, Lock(_, _))), of_kind(|e| matches!(e, Atom(_))));
-    let mut one_of = |from: &[u16]| from.get(r.below(from.len().max(1) as u64) as usize).copied();
-    let heard = [one_of(&locks), one_of(&halves), one_of(&locks), one_of(&halves), one_of(&[locks, halves.clone()].concat()), one_of(&halves)];
-    let goal = one_of(&atoms);
-    let from = r.below(3) as usize;
-    (entries, heard[from..].iter().flatten().copied().collect(), goal.unwrap_or(0))
-}
-
-// The same with any entry for the key of some locks: refused with 12, unless it is a half by chance, and 6 where it is forward.
+// A sheet with locks, and any entry for the key of some of them: refused with 12, unless it is a half by chance, and 6 where it is forward.
 fn any_key(r: &mut Random) -> Parts {
     let (mut entries, heard, goal) = lock_entries(r);
     for (i, e) in entries.iter_mut().enumerate() {

@@ -7,7 +7,7 @@
 
 use super::sheets::FRONT;
 
-const NO_STEP: u32 = 1 << 24;
+pub const NO_STEP: u32 = 1 << 24;
 
 pub type Set = [u64; 4];
 
@@ -64,6 +64,26 @@ pub trait Choices {
     fn made(&self, _t: &Tables, s: &State, _i: usize, [first, second]: [u8; 2]) -> bool {
         has(&s.known, first) && has(&s.known, second)
     }
+    // Has the stranger this rule?
+    fn on(&self, _rule: u32) -> bool {
+        true
+    }
+    // The head of a sum, given the lowest entry that is the same term.
+    fn head_of_sum(&self, _i: usize, same: usize) -> usize {
+        same
+    }
+    // Is this heard message gained at the start?
+    fn heard(&self, _t: &Tables, _i: usize) -> bool {
+        true
+    }
+    // Is this entry, a sum of gained terms or zero, gained by sum?
+    fn summed(&self, _t: &Tables, _s: &State, _i: usize) -> bool {
+        self.on(6)
+    }
+    // The step that is made, given the least number over all that follow.
+    fn chosen(&self, least: u32) -> u32 {
+        least
+    }
     // The place of a rule and a first source in the order of the steps to one entry. Done twice, it changes nothing.
     fn order(&self, rule: u32, first: u8) -> (u32, u8) {
         (rule, first)
@@ -73,6 +93,9 @@ pub trait Choices {
         if answer / 1000 != 2 {
             return [[0; 4]; 2];
         }
+        if !self.on(6) {
+            return [[0; 4], t.sets[goal]];
+        }
         let (remainder, used) = s.reduce(&t.sets[goal]);
         [used, remainder]
     }
@@ -81,6 +104,15 @@ pub trait Choices {
 pub struct Right;
 
 impl Choices for Right {}
+
+// The right choices by the rules that are switched on: the lowest bit for rule 1.
+pub struct Limited(pub u8);
+
+impl Choices for Limited {
+    fn on(&self, rule: u32) -> bool {
+        self.0 >> (rule - 1) & 1 == 1
+    }
+}
 
 fn tables(s: &[u8], c: &impl Choices) -> Tables {
     let number = |i: usize| (s[i] as usize) * 256 + s[i + 1] as usize;
@@ -101,7 +133,7 @@ fn tables(s: &[u8], c: &impl Choices) -> Tables {
             for p in (at + 1..at + len).step_by(2) {
                 set = add(&set, &t.sets[number(p)]);
             }
-            (set, (0..i).find(|&j| t.sets[j] == set).unwrap_or(i))
+            (set, c.head_of_sum(i, (0..i).find(|&j| t.sets[j] == set).unwrap_or(i)))
         } else {
             match (0..i).find(|&j| t.keys[j] == key) {
                 Some(j) => (t.sets[j], j),
@@ -199,7 +231,7 @@ fn next(t: &Tables, s: &State, remainders: &[Set; 256], c: &impl Choices) -> u32
         }
         let (key, e) = (t.keys[i], i as u8);
         let (kind, l, r) = (key >> 32, (key / 256 % 256) as u8, (key % 256) as u8);
-        let offer = |h: u8, rule: u32| if has(&s.known, h) { NO_STEP } else { number(h, rule, e) };
+        let offer = |h: u8, rule: u32| if has(&s.known, h) || !c.on(rule) { NO_STEP } else { number(h, rule, e) };
         let x = if has(&s.known, e) {
             match kind {
                 2 => offer(l, 1).min(offer(r, 2)),
@@ -209,8 +241,8 @@ fn next(t: &Tables, s: &State, remainders: &[Set; 256], c: &impl Choices) -> u32
             }
         } else {
             let rule = [0, 0, 4, 5, 0, 0, 0, 8][kind as usize];
-            let made = if rule != 0 && c.made(t, s, i, [l, r]) { number(e, rule, l) } else { NO_STEP };
-            if remainders[i] == [0; 4] { made.min(number(e, 6, 0)) } else { made }
+            let made = if rule != 0 && c.on(rule) && c.made(t, s, i, [l, r]) { number(e, rule, l) } else { NO_STEP };
+            if remainders[i] == [0; 4] && c.summed(t, s, i) { made.min(number(e, 6, 0)) } else { made }
         };
         best = best.min(x);
     }
@@ -246,7 +278,7 @@ fn run(t: &Tables, s: &mut State, remainders: &mut [Set; 256], goal: u8, budget:
         if has(&s.known, goal) {
             return 1000 + made;
         }
-        let x = next(t, s, remainders, c);
+        let x = c.chosen(next(t, s, remainders, c));
         if x == NO_STEP {
             return 2000 + made;
         }
@@ -279,7 +311,7 @@ fn judge<const BY_VALUE: bool>(sheet: &[u8], cut: u32, budget: u32, out: &mut [u
     let t = tables(sheet, c);
     let (mut s, mut remainders) = (State::new(), t.sets);
     let public = (0..t.n).filter(|&i| t.reps[i] as usize == i && c.public(&t, i));
-    let heard = (0..cut as usize).map(|k| at(10 + 4 * t.n + 2 * k));
+    let heard = (0..cut as usize).map(|k| at(10 + 4 * t.n + 2 * k)).filter(|&i| c.heard(&t, i));
     for i in public.chain(heard) {
         let (before, e) = (s.len, t.reps[i]);
         if has(&s.known, e) {
@@ -308,6 +340,11 @@ pub fn verdict(sheet: &[u8], cut: u32, budget: u32, out: &mut [u8]) -> u32 {
 // The same by other choices.
 pub fn verdict_by(sheet: &[u8], cut: u32, budget: u32, out: &mut [u8], choices: &impl Choices) -> u32 {
     judge::<false>(sheet, cut, budget, out, choices)
+}
+
+// The verdict with a setting.
+pub fn limited(sheet: &[u8], cut: u32, budget: u32, rules: u8, out: &mut [u8]) -> u32 {
+    judge::<false>(sheet, cut, budget, out, &Limited(rules))
 }
 
 // The state is taken by each term heard, and handed back.

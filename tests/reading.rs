@@ -108,6 +108,27 @@ pub fn read(s: &[u8]) -> Sheet {
     Sheet { kinds, terms, label, heard: (0..h).map(|k| number(10 + 4 * n + 2 * k)).collect(), goal }
 }
 
+// ---- document 02, E11: the setting
+
+// "A byte of eight switches, the lowest bit for rule 1, says which rules the stranger has."
+#[derive(Clone, Copy, Debug, PartialEq)]
+pub struct Setting(pub u8);
+
+// "all other calls have every rule on"
+pub const EVERY_RULE: Setting = Setting(255);
+
+const SUM: usize = 6;
+
+impl Setting {
+    pub fn has(self, rule: usize) -> bool {
+        matches!(rule, 1..=8) && usize::from(self.0) / 2usize.pow(rule as u32 - 1) % 2 == 1
+    }
+
+    pub fn has_sum(self) -> bool {
+        self.has(SUM)
+    }
+}
+
 // ---- document 01, "Rungs", word by word
 
 #[derive(Clone, Debug, PartialEq)]
@@ -120,6 +141,7 @@ pub struct Rung {
 }
 
 pub struct Work {
+    pub setting: Setting,
     pub heads: Vec<usize>,  // each entry's head
     pub gained: Vec<usize>, // gained heads, in order
     pub drawn: Vec<usize>,  // those that were not, when gained, a sum of those gained earlier
@@ -154,7 +176,7 @@ impl Work {
         self.gained.push(head);
     }
 
-    // Each way in which head follows by one rule other than sum: the rule and its sources.
+    // Each way in which head follows by one rule other than sum, switched on or off: the rule and its sources.
     fn ways(&self, sheet: &Sheet, head: usize) -> Vec<(usize, usize, usize)> {
         let t = &sheet.terms[head];
         let gained = |u: &Term| self.gained.iter().copied().find(|&i| sheet.terms[i] == *u);
@@ -184,12 +206,19 @@ impl Work {
         ways
     }
 
-    // How head follows by one rule: "The lowest rule number is used, then the lowest first source." Sum is rule 6.
+    // How head follows by sum, where the stranger has it.
+    fn by_sum(&self, sheet: &Sheet, head: usize) -> Option<Rung> {
+        let set = if self.setting.has_sum() { subset(sheet, &self.drawn, &sheet.terms[head]) } else { None };
+        set.map(|set| Rung { head, rule: SUM, first: 65535, second: 65535, set })
+    }
+
+    // How head follows by one rule that the stranger has: "The lowest rule number is used, then the lowest first source."
     fn follows(&self, sheet: &Sheet, head: usize) -> Option<Rung> {
-        let least = self.ways(sheet, head).into_iter().min().map(|(rule, first, second)| Rung { head, rule, first, second, set: Set::new() });
+        let ways = self.ways(sheet, head).into_iter().filter(|(rule, ..)| self.setting.has(*rule));
+        let least = ways.min().map(|(rule, first, second)| Rung { head, rule, first, second, set: Set::new() });
         match least {
-            Some(rung) if rung.rule < 6 => Some(rung),
-            _ => subset(sheet, &self.drawn, &sheet.terms[head]).map(|set| Rung { head, rule: 6, first: 65535, second: 65535, set }).or(least),
+            Some(rung) if rung.rule < SUM => Some(rung),
+            _ => self.by_sum(sheet, head).or(least),
         }
     }
 
@@ -217,7 +246,12 @@ pub fn heads(sheet: &Sheet) -> Vec<usize> {
 }
 
 pub fn work(sheet: &Sheet, cut: usize, budget: usize) -> (Answer, Vec<Rung>, Work) {
-    let mut w = Work { heads: heads(sheet), gained: vec![], drawn: vec![] };
+    work_with(EVERY_RULE, sheet, cut, budget)
+}
+
+// The start, the heads and the sameness are one for all settings: E11, "Sameness keeps the four laws in each setting."
+pub fn work_with(setting: Setting, sheet: &Sheet, cut: usize, budget: usize) -> (Answer, Vec<Rung>, Work) {
+    let mut w = Work { setting, heads: heads(sheet), gained: vec![], drawn: vec![] };
     for i in start(sheet, cut) {
         let head = w.heads[i];
         w.gain(sheet, head);
@@ -281,8 +315,14 @@ pub fn highest(sheet: &Sheet, w: &Work) -> Set {
 // The used set and the remainder: "used terms and remainder sum to the goal. The remainder holds no standard entry that is the highest-numbered one in
 // some sum of gained terms, which makes it unique. The used set draws on the same gained terms as a sum rung." Each used set is tried. What is then left
 // of the goal is the sum of one set of standard entries, so no other can be the remainder.
+//
+// E11, without sum: "the used set is then empty and the remainder is the goal's own set".
 pub fn missing_part(sheet: &Sheet, w: &Work) -> (Set, Set) {
-    let (standard, highest) = (standard(sheet, &w.heads), highest(sheet, w));
+    let standard = standard(sheet, &w.heads);
+    if !w.setting.has_sum() {
+        return (Set::new(), standard_set(&standard, &sheet.terms[sheet.goal]));
+    }
+    let highest = highest(sheet, w);
     let mut found = all_sums(sheet, &w.drawn).into_iter().filter_map(|(used, sum)| {
         let remainder = standard_set(&standard, &add(&sheet.terms[sheet.goal], &sum));
         remainder.is_disjoint(&highest).then_some((used, remainder))
@@ -303,38 +343,42 @@ pub fn set_bytes(set: impl IntoIterator<Item = usize>) -> [u8; 32] {
     b
 }
 
+// "gained head, rule, first source, second source (2 bytes each) and a 32-byte set of summed sources"
+pub fn rung_bytes(rung: &Rung) -> Vec<u8> {
+    let numbers = [rung.head, rung.rule, rung.first, rung.second].map(|n| (n as u16).to_be_bytes()).concat();
+    [&numbers[..], &set_bytes(rung.set.iter().copied())].concat()
+}
+
 // The members of a set's 32 bytes.
 pub fn members(bytes: &[u8]) -> Set {
     (0..256).filter(|e| bytes[e / 8] >> (e % 8) & 1 == 1).collect()
 }
 
+// The refusal of a call with a buffer of this length, or 0.
+pub fn refused(s: &[u8], cut: u32, budget: u32, length: usize) -> u32 {
+    match refusal(s) {
+        0 if cut > u32::from(s[6]) * 256 + u32::from(s[7]) => 8,
+        0 if budget > 256 => 9,
+        0 if length < FRONT + 40 * budget as usize => 10,
+        refused => refused,
+    }
+}
+
 // The number and the buffer that the documents ask for.
 pub fn expected(s: &[u8], cut: u32, budget: u32, buffer: &[u8]) -> (u32, Vec<u8>) {
-    let same = buffer.to_vec();
-    let refused = refusal(s);
-    if refused != 0 {
-        return (refused, same);
+    match refused(s, cut, budget, buffer.len()) {
+        0 => judged(EVERY_RULE, &read(s), cut as usize, budget as usize, buffer),
+        refused => (refused, buffer.to_vec()),
     }
-    let sheet = read(s);
-    if cut as usize > sheet.heard.len() {
-        return (8, same);
-    }
-    if budget > 256 {
-        return (9, same);
-    }
-    if buffer.len() < FRONT + 40 * budget as usize {
-        return (10, same);
-    }
-    let (answer, rungs, w) = work(&sheet, cut as usize, budget as usize);
+}
+
+// The same of a call that isn't refused, in a setting.
+pub fn judged(setting: Setting, sheet: &Sheet, cut: usize, budget: usize, buffer: &[u8]) -> (u32, Vec<u8>) {
+    let (answer, rungs, w) = work_with(setting, sheet, cut, budget);
     // E5: "They are zero for the other verdicts."
-    let (used, remainder) = if let Answer::OutOfReach = answer { missing_part(&sheet, &w) } else { (Set::new(), Set::new()) };
+    let (used, remainder) = if let Answer::OutOfReach = answer { missing_part(sheet, &w) } else { (Set::new(), Set::new()) };
     let mut after = [set_bytes(w.gained.iter().copied()), set_bytes(used), set_bytes(remainder)].concat();
-    for r in &rungs {
-        for n in [r.head, r.rule, r.first, r.second] {
-            after.extend((n as u16).to_be_bytes());
-        }
-        after.extend(set_bytes(r.set.iter().copied()));
-    }
+    rungs.iter().for_each(|rung| after.extend(rung_bytes(rung)));
     after.extend(&buffer[after.len()..]);
     let code = match answer {
         Answer::Reached => 1000,
@@ -344,7 +388,12 @@ pub fn expected(s: &[u8], cut: u32, budget: u32, buffer: &[u8]) -> (u32, Vec<u8>
     (code + rungs.len() as u32, after)
 }
 
-// ---- document 01, "Ladders and their replay", with the cases of document 02, E6
+// ---- document 01, "Ladders and their replay", with the cases of document 02, E6, and E11's "a ladder returned uses no other"
+
+// Is each rung's rule switched on?
+pub fn uses_only(setting: Setting, rungs: &[u8]) -> bool {
+    rungs.chunks(40).all(|rung| setting.has(usize::from(rung[2]) * 256 + usize::from(rung[3])))
+}
 
 // Is this rung of 40 bytes right in this state?
 fn right(sheet: &Sheet, state: &[Term], rung: &[u8]) -> bool {

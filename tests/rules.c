@@ -1,39 +1,8 @@
 /* The header's kinds, rules and places, on one sheet whose goal takes a rung by each rule; with another goal, what is missing of it; and with another
- * key of a lock, its refusal. One atom stands in a long record. */
-#include "zuwendryk.h"
+ * key of a lock, its refusal. One atom stands in a long record. Then the same with a rule switched off. */
+#include "every_rule.h"
 #include <stdio.h>
 #include <string.h>
-
-#define N(x) 0, (x)                /* a number below 256 */
-#define SECRET(x) 3, 232 + (x)     /* 1,000 and a number below 24: an atom that isn't on the hull label */
-#define LARGE(x) 0, 1, N(x)        /* 65,536 and a number below 256, in 4 bytes */
-#define PLACE(at, len) N(at), N(len)
-
-enum { X, Y, M, Z, W, SUM, PUBLIC, PRIVATE, PAIR, SEAL, LOCK, JOINED, SEALED, GOAL, ZERO, ENTRIES, HEARD = 5 };
-enum { RECORDS = ZUWENDRYK_RECORDS_AT(ENTRIES, HEARD), LOCK_AT = RECORDS + 38 };
-
-static const uint8_t sheet[] = {
-    'S', 'H', 'T', '1', N(ENTRIES), N(HEARD), N(GOAL),
-    PLACE(RECORDS, 3), PLACE(RECORDS + 3, 5), PLACE(RECORDS + 8, 3), PLACE(RECORDS + 11, 3), PLACE(RECORDS + 14, 3),
-    PLACE(RECORDS + 17, 5), PLACE(RECORDS + 22, 3), PLACE(RECORDS + 25, 3), PLACE(RECORDS + 28, 5), PLACE(RECORDS + 33, 5),
-    PLACE(LOCK_AT, 5), PLACE(RECORDS + 43, 5), PLACE(RECORDS + 48, 5), PLACE(RECORDS + 53, 5), PLACE(RECORDS + 58, 1),
-    N(PAIR), N(SEAL), N(SUM), N(LOCK), N(PRIVATE),
-    ZUWENDRYK_KIND_ATOM, SECRET(10),
-    ZUWENDRYK_KIND_ATOM, LARGE(11),
-    ZUWENDRYK_KIND_ATOM, SECRET(12),
-    ZUWENDRYK_KIND_ATOM, SECRET(13),
-    ZUWENDRYK_KIND_ATOM, SECRET(14),
-    ZUWENDRYK_KIND_SUM, N(M), N(Z),
-    ZUWENDRYK_KIND_PUBLIC, N(7),
-    ZUWENDRYK_KIND_PRIVATE, N(7),
-    ZUWENDRYK_KIND_PAIR, N(X), N(Y),
-    ZUWENDRYK_KIND_SEAL, N(M), N(X),
-    ZUWENDRYK_KIND_LOCK, N(W), N(PUBLIC),
-    ZUWENDRYK_KIND_PAIR, N(Z), N(X),
-    ZUWENDRYK_KIND_SEAL, N(JOINED), N(W),
-    ZUWENDRYK_KIND_LOCK, N(SEALED), N(PRIVATE),
-    ZUWENDRYK_KIND_ZERO,
-};
 
 /* The rungs expected: gained entry, rule, first and second source, and the first byte of the set. */
 static const unsigned rungs[][5] = {
@@ -122,9 +91,63 @@ static int keys(void) {
     return good;
 }
 
+/* The verdict by the rules of a byte, over a buffer whose bytes were all set. */
+static uint32_t limited(const uint8_t *bytes, unsigned rules) {
+    memset(buffer, 0xee, sizeof buffer);
+    return zuwendryk_limited_verdict(bytes, sizeof sheet, HEARD, ZUWENDRYK_MOST_RUNGS, (uint8_t)rules, buffer, sizeof buffer);
+}
+
+/* With every rule on, the answer and the bytes are those of the other verdict. */
+static int every_rule(void) {
+    static uint8_t other[sizeof buffer];
+    uint32_t answer = verdict(sheet, HEARD);
+    memcpy(other, buffer, sizeof buffer);
+    int good = expect("the answer with every rule", limited(sheet, ZUWENDRYK_EVERY_RULE), answer);
+    return good & expect("the bytes with every rule, compared,", memcmp(buffer, other, sizeof buffer) != 0, 0);
+}
+
+/* Without a rule no rung is by it, and the goal is out of reach; only Y, which right gains, isn't used. Without sum the goal's own set is missing. */
+static int without(unsigned rule) {
+    uint32_t answer = limited(sheet, ZUWENDRYK_EVERY_RULE & ~(unsigned)ZUWENDRYK_SWITCH(rule));
+    int good = expect("the verdict without a rule", answer / 1000 * 1000, rule == ZUWENDRYK_RULE_RIGHT ? ZUWENDRYK_REACHED : ZUWENDRYK_OUT_OF_REACH);
+    for (uint32_t i = 0; i < answer % 1000; i++)
+        good &= expect("the rule switched off, found,", number(buffer + ZUWENDRYK_BUFFER(i) + ZUWENDRYK_RUNG_RULE) == rule, 0);
+    if (rule == ZUWENDRYK_RULE_SUM) {
+        good &= same_set("the used set without sum", ZUWENDRYK_USED_AT, 0);
+        good &= same_set("the remainder without sum", ZUWENDRYK_REMAINDER_AT, 1 << GOAL);
+    }
+    return good;
+}
+
+/* The switches are the bits of a byte, each rule alone. With open alone one seal is opened, once its key is heard in place of the pair. */
+static int switches(void) {
+    uint8_t other[sizeof sheet];
+    unsigned sum = 0;
+    int good = every_rule();
+    for (unsigned rule = ZUWENDRYK_RULE_LEFT; rule <= ZUWENDRYK_RULE_LOCK; rule++) {
+        sum += (unsigned)ZUWENDRYK_SWITCH(rule);
+        good &= without(rule);
+    }
+    good &= expect("the sum of the switches", sum, ZUWENDRYK_EVERY_RULE);
+    memcpy(other, sheet, sizeof sheet);
+    other[9] = M;
+    other[ZUWENDRYK_HEARD_AT(ENTRIES) + 1] = X;
+    good &= expect("the answer with open alone", limited(other, ZUWENDRYK_SWITCH(ZUWENDRYK_RULE_OPEN)), ZUWENDRYK_REACHED + 1);
+    good &= same_rung(buffer + ZUWENDRYK_FRONT, rungs[2]);
+    good &= expect("the answer without a rule", limited(other, 0), ZUWENDRYK_OUT_OF_REACH);
+    /* Zero isn't free without sum, and nothing is in its set. */
+    other[9] = ZERO;
+    good &= expect("zero with sum alone", limited(other, ZUWENDRYK_SWITCH(ZUWENDRYK_RULE_SUM)) / 1000, 1);
+    good &= expect("zero without sum", limited(other, ZUWENDRYK_EVERY_RULE & ~ZUWENDRYK_SWITCH(ZUWENDRYK_RULE_SUM)) / 1000, 2);
+    good &= same_set("the used set of zero", ZUWENDRYK_USED_AT, 0);
+    good &= same_set("the remainder of zero", ZUWENDRYK_REMAINDER_AT, 0);
+    return good;
+}
+
 int main(void) {
     int good = reached();
     good &= missing();
     good &= keys();
+    good &= switches();
     return !good;
 }

@@ -131,6 +131,40 @@ fn random_entry(r: &mut Random, atoms: &[u32], pairs: &[u16], before: &[Entry]) 
     }
 }
 
+fn halves_in(entries: &[Entry]) -> Vec<u16> {
+    (0..entries.len() as u16).filter(|i| matches!(entries[usize::from(*i)], Entry::Private(_) | Entry::Public(_))).collect()
+}
+
+// Both halves of a key pair or two, atoms, and above them locks, pairs, seals, sums and halves again. What is heard are locks and halves,
+// and the goal is an atom.
+pub fn lock_entries(r: &mut Random) -> (Vec<Entry>, Vec<u16>, u16) {
+    let pairs: Vec<u16> = (0..1 + r.below(2)).map(|_| KEY_PAIRS[r.below(5) as usize]).collect();
+    let mut entries: Vec<Entry> = pairs.iter().flat_map(|p| [Entry::Private(*p), Entry::Public(*p)]).collect();
+    if r.below(2) == 0 {
+        entries.swap_remove(r.below(2) as usize);
+    }
+    entries.extend((0..1 + r.below(2)).map(|i| Entry::Atom(1000 + i as u32)));
+    for _ in 0..2 + r.below(5) {
+        let (i, halves) = (entries.len() as u64, halves_in(&entries));
+        let (a, b) = (r.below(i) as u16, r.below(i) as u16);
+        entries.push(match r.below(10) {
+            0 => Entry::Pair(a, b),
+            1 => Entry::Seal(a, b),
+            2..=3 => Entry::Sum((0..1 + r.below(3)).map(|_| r.below(i) as u16).collect()),
+            4..=5 => [Entry::Private, Entry::Public][r.below(2) as usize](pairs[0]),
+            _ => Entry::Lock(a, halves[r.below(halves.len() as u64) as usize]),
+        });
+    }
+    let (n, halves) = (entries.len() as u64, halves_in(&entries));
+    let of_kind = |kind: fn(&Entry) -> bool| (0..n as u16).filter(|i| kind(&entries[usize::from(*i)])).collect::<Vec<u16>>();
+    let (locks, atoms) = (of_kind(|e| matches!(e, Entry::Lock(_, _))), of_kind(|e| matches!(e, Entry::Atom(_))));
+    let mut one_of = |from: &[u16]| from.get(r.below(from.len().max(1) as u64) as usize).copied();
+    let heard = [one_of(&locks), one_of(&halves), one_of(&locks), one_of(&halves), one_of(&[locks, halves.clone()].concat()), one_of(&halves)];
+    let goal = one_of(&atoms);
+    let from = r.below(3) as usize;
+    (entries, heard[from..].iter().flatten().copied().collect(), goal.unwrap_or(0))
+}
+
 // A few bytes changed, cut off or put in.
 pub fn damage(r: &mut Random, mut s: Vec<u8>) -> Vec<u8> {
     for _ in 0..1 + r.below(3) {

@@ -34,6 +34,7 @@ enum {
 
 static uint8_t sheet[LENGTH], buffer[ZUWENDRYK_BUFFER(RUNGS)];
 static uint8_t *lowest; /* the stack's lowest byte, above the page that may not be touched */
+static int setting = -1; /* that of the verdict, or -1 for the full one */
 
 /* What the child finds out, in memory that it shares with its parent. */
 static struct result {
@@ -76,6 +77,8 @@ static const struct call calls[] = {
     {"over budget", REFUSED, ZUWENDRYK_OVER_BUDGET, 0, LENGTH, HEARD, RUNGS + 1, sizeof buffer, 0, 0, 0, 0},
     {"no space", REFUSED, ZUWENDRYK_NO_SPACE, 0, LENGTH, HEARD, RUNGS, sizeof buffer - 1, 0, 0, 0, 0},
 };
+
+enum { CALLS = sizeof calls / sizeof calls[0] };
 
 /* Byte by byte through a volatile pointer, so that no memset or memcpy is called. */
 static uint8_t *put(uint8_t *at, size_t number) {
@@ -140,7 +143,8 @@ static void make_worst(void) {
 static __attribute__((noinline)) void make(const struct call *c) {
     result->top = (uintptr_t)__builtin_frame_address(0);
     if (c->kind == VALIDATE) result->answer = zuwendryk_validate(sheet, c->len);
-    else result->answer = zuwendryk_verdict(sheet, c->len, c->cut, c->budget, buffer, c->space);
+    else if (setting < 0) result->answer = zuwendryk_verdict(sheet, c->len, c->cut, c->budget, buffer, c->space);
+    else result->answer = zuwendryk_limited_verdict(sheet, c->len, c->cut, c->budget, (uint8_t)setting, buffer, c->space);
 }
 
 /* Uses stack up until the room is left, then makes the call. */
@@ -214,7 +218,8 @@ static int judge(const struct call *c, size_t said, size_t *most) {
 /* The thread that the header says is enough. */
 static void *plain_thread(void *arg) {
     (void)arg;
-    zuwendryk_verdict(sheet, LENGTH, HEARD, RUNGS, buffer, sizeof buffer);
+    if (setting < 0) zuwendryk_verdict(sheet, LENGTH, HEARD, RUNGS, buffer, sizeof buffer);
+    else zuwendryk_limited_verdict(sheet, LENGTH, HEARD, RUNGS, (uint8_t)setting, buffer, sizeof buffer);
     return NULL;
 }
 
@@ -231,20 +236,37 @@ static int plain(void) {
     return child_id > 0 && waitpid(child_id, &status, 0) == child_id && status == 0;
 }
 
+/* Judges every call with the present setting, and the thread. In another setting than the full one a verdict is any. Answers how many are good. */
+static unsigned judge_all(size_t most[]) {
+    unsigned passed = 0;
+    for (unsigned i = 0; i < CALLS; i++) {
+        struct call c = calls[i];
+        if (c.kind == VERDICT && setting >= 0 && setting != ZUWENDRYK_EVERY_RULE) {
+            c.answer = ZUWENDRYK_REACHED;
+            c.more = ZUWENDRYK_STOPPED + RUNGS - ZUWENDRYK_REACHED;
+        }
+        if (judge(&c, c.kind == VERDICT ? ZUWENDRYK_STACK : ZUWENDRYK_STACK_REFUSED, &most[c.kind])) passed++;
+    }
+    if (plain()) return passed + 1;
+    printf("stack: a thread with a stack of PTHREAD_STACK_MIN + ZUWENDRYK_STACK did not come to its end, setting %d\n", setting);
+    return passed;
+}
+
+/* The full verdict, then the one with a setting: every rule on, none, sum alone, all but sum. */
 int main(void) {
-    size_t most[] = {0, 0, 0};
-    unsigned passed = 0, count = sizeof calls / sizeof calls[0];
+    static const int settings[] = {ZUWENDRYK_EVERY_RULE, 0, ZUWENDRYK_SWITCH(ZUWENDRYK_RULE_SUM), ZUWENDRYK_EVERY_RULE & ~ZUWENDRYK_SWITCH(ZUWENDRYK_RULE_SUM)};
+    size_t most[] = {0, 0, 0}, limited[] = {0, 0, 0};
+    unsigned passed, count = (CALLS + 1) * (1 + sizeof settings / sizeof settings[0]);
     make_worst();
     result = mmap(NULL, PAGE, PROT_READ | PROT_WRITE, MAP_SHARED | MAP_ANONYMOUS, -1, 0);
     if (result == MAP_FAILED) return 2;
-    for (unsigned i = 0; i < count; i++) {
-        enum kind kind = calls[i].kind;
-        if (judge(&calls[i], kind == VERDICT ? ZUWENDRYK_STACK : ZUWENDRYK_STACK_REFUSED, &most[kind])) passed++;
+    passed = judge_all(most);
+    for (size_t i = 0; i < sizeof settings / sizeof settings[0]; i++) {
+        setting = settings[i];
+        passed += judge_all(limited);
     }
-    if (plain()) passed++;
-    else printf("stack: a thread with a stack of PTHREAD_STACK_MIN + ZUWENDRYK_STACK did not come to its end\n");
-    printf("stack: touched by a verdict %zu bytes (said: %d), ", most[VERDICT], ZUWENDRYK_STACK);
-    printf("by a refused one %zu, by validate %zu (said: %d)\n", most[REFUSED], most[VALIDATE], ZUWENDRYK_STACK_REFUSED);
-    printf("stack: %u passed, %u failed\n", passed, count + 1 - passed);
-    return passed != count + 1;
+    printf("stack: touched by a verdict %zu bytes, with a setting %zu (said: %d), ", most[VERDICT], limited[VERDICT], ZUWENDRYK_STACK);
+    printf("by a refused one %zu, with a setting %zu, by validate %zu (said: %d)\n", most[REFUSED], limited[REFUSED], most[VALIDATE], ZUWENDRYK_STACK_REFUSED);
+    printf("stack: %u passed, %u failed\n", passed, count - passed);
+    return passed != count;
 }

@@ -1,9 +1,11 @@
 // Libraries that are wrong on purpose, by the plain Rust verdict with a fault put in: the brute-force test has to fail on each of them, the test of the
-// refusals on those with a fault in the table, and both have to pass on the one without a fault. The environment variable FAULT chooses the fault.
+// refusals on those with a fault in the table, the test of the settings on those with a fault in the setting (wrong_settings.rs), and each has to pass on the
+// one without a fault. The environment variable FAULT chooses the fault.
 
 #[allow(dead_code)]
 mod sheets;
 mod plain;
+mod wrong_settings;
 use plain::{add, has, leading, single, Choices, Right, Set, State, Tables};
 use sheets::{bad_record, refusal, refusal_by, ATOM_LENGTHS, FRONT, LAST_KIND, LONGEST};
 use std::sync::OnceLock;
@@ -529,7 +531,10 @@ pub unsafe extern "C" fn zuwendryk_verdict(sheet: *const u8, sheet_len: usize, c
     let s = std::slice::from_raw_parts(sheet, sheet_len);
     let out = std::slice::from_raw_parts_mut(buffer, buffer_len);
     let before = out.to_vec();
-    let answer = verdict(s, cut, budget, out);
+    let answer = match fault() {
+        "the full verdict without unlock and lock" => plain::limited(s, cut, budget, 63, out),
+        _ => verdict(s, cut, budget, out),
+    };
     if answer >= 1000 {
         write(s, &before, out, answer);
     }
@@ -548,6 +553,12 @@ pub unsafe extern "C" fn zuwendryk_verdict(sheet: *const u8, sheet_len: usize, c
         }
         _ => answer,
     }
+}
+
+#[no_mangle]
+pub unsafe extern "C" fn zuwendryk_limited_verdict(sheet: *const u8, len: usize, cut: u32, budget: u32, rules: u8, buffer: *mut u8, buffer_len: usize) -> u32 {
+    let s = std::slice::from_raw_parts(sheet, len);
+    wrong_settings::verdict(s, cut, budget, rules, std::slice::from_raw_parts_mut(buffer, buffer_len))
 }
 
 #[no_mangle]
