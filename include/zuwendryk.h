@@ -6,9 +6,11 @@
  * called rungs. "Out of reach" is proved: no finite row of steps whatever, through terms of any size, gains the goal. It comes with what the
  * listener still lacks.
  *
- * This header is the manual: version, linking, the sheet's bytes, the rules, the answers, the buffer's bytes, what is missing, stack, what a
- * caller owes and what is proved, then the two calls. examples/build.c makes a sheet and asks for its verdict; examples/verdict.c reads one from
- * a file.
+ * A stranger whose receiver can't do everything has fewer rules. A second verdict takes a byte that says which; see SWITCHES.
+ *
+ * This header is the manual: version, linking, the sheet's bytes, the rules and their switches, the answers, the buffer's bytes, what is missing,
+ * stack, what a caller owes and what is proved, then the three calls. examples/build.c makes a sheet and asks for its verdict; examples/verdict.c
+ * reads one from a file.
  */
 #ifndef ZUWENDRYK_H
 #define ZUWENDRYK_H
@@ -23,6 +25,8 @@ extern "C" {
 /* VERSION. The same stands in zuwendryk.pc and in what `sheet --version` prints. The first number changes when a sheet can get another answer or
  * the buffer another layout:
  *
+ *     5.1.0   zuwendryk_limited_verdict, a verdict on a stranger who has only some of the rules, and macros for its switches. No answer and no byte
+ *             of the other calls changes, and a caller that was made for version 5.0 needs nothing.
  *     5.0.0   Key pairs and locks: the kinds 5, 6 and 7, the rules 7 and 8, and refusal 12, wrong half. A caller that was made for version 4 has to
  *             expect both rules in a rung, and 12 among the answers of both calls. A sheet without these kinds gets the same answer and the same
  *             bytes. A sheet with one of them was refused, with 5 unless another refusal came first.
@@ -36,9 +40,9 @@ extern "C" {
  *     2.0.0   Atoms 0 to 255 are on the hull label. A sheet that was made for version 1 and uses such numbers for secrets has to be numbered
  *             anew. */
 #define ZUWENDRYK_VERSION_MAJOR 5
-#define ZUWENDRYK_VERSION_MINOR 0
+#define ZUWENDRYK_VERSION_MINOR 1
 #define ZUWENDRYK_VERSION_PATCH 0
-#define ZUWENDRYK_VERSION "5.0.0"
+#define ZUWENDRYK_VERSION "5.1.0"
 
 /* LINKING
  *
@@ -144,16 +148,16 @@ extern "C" {
 /* RULES. A listener starts with the names on the hull label, also at cut 0: the atoms 0 to 255 that stand on the sheet, in the order of their
  * entries. Then come the heard messages before the cut, in their order. Each is gained as its head. After that one term is gained a rung:
  *
- *     rule        gains                                  first source    second source    set
- *     1 left      the left of a pair                     the pair        65,535           zero
- *     2 right     the right of a pair                    the pair        65,535           zero
- *     3 open      the message of a seal whose key it has the seal        the key          zero
- *     4 join      the pair of two terms                  the left        the right        zero
- *     5 seal      a term sealed under a term             the message     the key          zero
- *     6 sum       the sum of a set of terms              65,535          65,535           the summed entries; none for zero
- *     7 unlock    the message of a lock                  the lock        the opposite     zero
- *                 whose key's opposite half it has                       half of its key
- *     8 lock      a term locked under a half             the message     the half         zero
+ *     rule        switch    gains                                  first source    second source    set
+ *     1 left      1         the left of a pair                     the pair        65,535           zero
+ *     2 right     2         the right of a pair                    the pair        65,535           zero
+ *     3 open      4         the message of a seal whose key it has the seal        the key          zero
+ *     4 join      8         the pair of two terms                  the left        the right        zero
+ *     5 seal      16        a term sealed under a term             the message     the key          zero
+ *     6 sum       32        the sum of a set of terms              65,535          65,535           the summed entries; none for zero
+ *     7 unlock    64        the message of a lock                  the lock        the opposite     zero
+ *                           whose key's opposite half it has                       half of its key
+ *     8 lock      128       a term locked under a half             the message     the half         zero
  *
  * Of all rungs that could follow, a call makes the one that gains the lowest head; of several ways to gain it, that of the lowest rule, then of
  * the lowest first source. A sum is made of the one set that gives it among the gained entries that were not, when gained, sums of those gained
@@ -169,7 +173,22 @@ extern "C" {
 #define ZUWENDRYK_NO_SOURCE 65535
 #define ZUWENDRYK_MOST_RUNGS 256 /* the greatest budget */
 
-/* ANSWERS of zuwendryk_verdict: a refusal's number, or a verdict's number plus the number of rungs made, 0 to 256. So an answer below
+/* SWITCHES. zuwendryk_limited_verdict takes a byte of eight switches, the lowest bit for rule 1. Only rungs by the rules that are switched on are
+ * made. Every byte is good: with 0 a stranger makes no rung, with 255 he has every rule. Every other call has every rule on. The start, which terms are
+ * the same, the order of the rungs, the refusals and the buffer's layout don't depend on the switches.
+ *
+ *     ZUWENDRYK_EVERY_RULE & ~ZUWENDRYK_SWITCH(ZUWENDRYK_RULE_SUM)     every rule but sum
+ *     ZUWENDRYK_SWITCH(ZUWENDRYK_RULE_OPEN)                            open alone
+ *
+ * Without sum, zero isn't free: it is gained as any other term is, by hearing it or out of what was heard. At out of reach the used set is then
+ * empty and the remainder is the goal's own set; see WHAT IS MISSING.
+ *
+ * A warning. To switch a rule off is a claim about the stranger's receiver, not about the protocol. Out of reach for a limited stranger says nothing
+ * about one who has more rules. So ask with every rule first, and switch off only what the receiver surely can't do. */
+#define ZUWENDRYK_SWITCH(rule) (1 << ((rule) - 1))
+#define ZUWENDRYK_EVERY_RULE 255
+
+/* ANSWERS of both verdicts: a refusal's number, or a verdict's number plus the number of rungs made, 0 to 256. So an answer below
  * ZUWENDRYK_REACHED is a refusal, and of any other answer / 1000 * 1000 is the verdict and answer % 1000 the rungs. */
 
 /* Refusals. They are looked for in the order of their numbers, except that the records are taken entry by entry, and in each 5 comes before 6 and 6
@@ -237,7 +256,11 @@ extern "C" {
  *     0 the key, 1 the pad, 2 the sum of both      none        0, the key itself
  *
  * The remainder is about sums alone. Another term may open another way to the goal, as the key of a seal or the opposite half of the key of a lock
- * that was heard. To see what the loss of a term would do, add its entry to the heard messages and ask again. */
+ * that was heard. To see what the loss of a term would do, add its entry to the heard messages and ask again.
+ *
+ * All of this holds in every setting with sum switched on. Without sum the used set is empty and the remainder is the goal's own set, the one set of
+ * standard entries whose sum is the goal's term. Both are empty for a goal that is zero. So the listener lacks the goal itself; members of the
+ * remainder may be gained, where he only can't sum them. */
 
 /* STACK. The most bytes of stack that a call itself touches, below its caller's own: a verdict's, and those of a call that is refused and of
  * zuwendryk_validate. They include what the dynamic linker takes when it looks up memcpy or memset at the first use. A thread made for a verdict
@@ -261,12 +284,22 @@ extern "C" {
  * a sum of gained terms; no other two sets are so. The remainder isn't empty, and none of its members is gained. No finite row of steps gains the
  * sum of its terms, and a listener who had that sum would gain the goal.
  *
+ * The same is proved of zuwendryk_limited_verdict for every byte of switches, with rows of steps by the rules switched on: out of reach comes only
+ * where none of these gains the goal, and with a budget of n or more always there; the rungs handed back use no other rule; without sum, used set and
+ * remainder are as said above. With ZUWENDRYK_EVERY_RULE it gives the answer and the bytes of zuwendryk_verdict. With a budget of 256, turning a switch
+ * on never turns reached into out of reach, and where the goal stays out of reach no gained term is lost.
+ *
  * Assumed are the checker, the compiler's back end, and that keys are perfect: a seal shows nothing without its key, nor a lock without the opposite
  * half of its key. */
 
 /* The verdict on a sheet after the first `cut` heard messages, 0 to h, with at most `budget` rungs, 0 to 256. The answers and the buffer's bytes are
  * said above. A budget of ZUWENDRYK_MOST_RUNGS is enough for every sheet. The time grows with the square of n. */
 uint32_t zuwendryk_verdict(const uint8_t *sheet, size_t sheet_len, uint32_t cut, uint32_t budget, uint8_t *buffer, size_t buffer_len);
+
+/* The same verdict on a stranger who has the rules that are switched on; see SWITCHES. It refuses what zuwendryk_verdict refuses, and every `rules` is
+ * good. */
+uint32_t zuwendryk_limited_verdict(const uint8_t *sheet, size_t sheet_len, uint32_t cut, uint32_t budget, uint8_t rules, uint8_t *buffer,
+                                   size_t buffer_len);
 
 /* Is this a good sheet? The number of the refusal, 1 to 7 or 12, or 0 for a good one. */
 uint32_t zuwendryk_validate(const uint8_t *sheet, size_t sheet_len);

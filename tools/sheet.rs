@@ -34,6 +34,8 @@ mod output;
 mod print;
 #[path = "sheet/rows.rs"]
 mod rows;
+#[path = "sheet/rules.rs"]
+mod rules;
 #[path = "sheet/short.rs"]
 mod short;
 #[path = "sheet/svg.rs"]
@@ -46,6 +48,7 @@ mod verdict;
 mod words;
 
 use args::{Command, File};
+use rules::Rules;
 use std::io::Write;
 use std::process::ExitCode;
 
@@ -79,29 +82,35 @@ fn from_either(file: &File, bytes: &[u8]) -> Result<model::Sheet, String> {
     if bytes.starts_with(bytes::LETTERS) { from_bytes(file, bytes) } else { from_text(file, bytes) }
 }
 
-fn judged(file: &File, cut: Option<u32>) -> Result<judge::Judged, String> {
+fn judged(file: &File, cut: Option<u32>, rules: Rules) -> Result<judge::Judged, String> {
     let read = files::read(file)?;
     let said = |message| format!("{}: {message}", files::name(file));
     if read.starts_with(bytes::LETTERS) {
         // The library refuses before the tool does.
-        verdict::verdict(&read, 0).map_err(|number| said(judge::refused(number)))?;
-        return judge::judge(&read, &from_bytes(file, &read)?, cut).map_err(said);
+        verdict::verdict(&read, 0, rules).map_err(|number| said(judge::refused(number)))?;
+        return judge::judge(&read, &from_bytes(file, &read)?, cut, rules).map_err(said);
     }
     let sheet = from_text(file, &read)?;
-    judge::judge(&bytes::encode(&sheet), &sheet, cut).map_err(said)
+    judge::judge(&bytes::encode(&sheet), &sheet, cut, rules).map_err(said)
 }
 
-fn drawn(sheet_file: &File, card_file: Option<&File>, needed: bool, as_dot: bool) -> Result<String, String> {
+fn drawn(sheet_file: &File, card_file: Option<&File>, rules: Rules, needed: bool, as_dot: bool) -> Result<String, String> {
     let sheet = from_either(sheet_file, &files::read(sheet_file)?)?;
     let heads = heads::Heads::of(&sheet);
     let card = match card_file {
         Some(file) => card::parse(&files::read(file)?, &sheet, &heads).map_err(|fault| at(file, &fault))?,
         None => {
-            let list = verdict::verdicts(&bytes::encode(&sheet), sheet.heard.len());
-            verdict::card(&list.map_err(|number| format!("{}: {}", files::name(sheet_file), judge::refused(number)))?)
+            let list = verdict::verdicts(&bytes::encode(&sheet), sheet.heard.len(), rules);
+            let list = list.map_err(|number| format!("{}: {}", files::name(sheet_file), judge::refused(number)))?;
+            verdict::card(&list, rules, heads.head[sheet.goal])
         }
     };
-    let graph = graph::graph(&sheet, &heads, &card);
+    let mut graph = graph::graph(&sheet, &heads, &card);
+    if rules != Rules::EVERY {
+        let limit = format!(", without {}", notes::listed(&rules.lacking()));
+        graph.title += &limit;
+        graph.heading += &limit;
+    }
     let graph = if needed { graph::needed(graph) } else { graph };
     Ok(if as_dot { dot::dot(&graph) } else { svg::svg(&graph) })
 }
@@ -120,13 +129,13 @@ fn run(command: Command) -> Result<u8, String> {
             let bytes = files::read_start(&sheet, bytes::MOST_BYTES as u64 + 1)?;
             files::write(&out, print::print(&from_bytes(&sheet, &bytes)?).as_bytes()).map(done)
         }
-        Command::Draw { sheet, card, dot, needed, out } => {
+        Command::Draw { sheet, card, rules, dot, needed, out } => {
             files::apart(&[&sheet, card.as_ref().unwrap_or(&sheet)], &out)?;
-            files::write(&out, drawn(&sheet, card.as_ref(), needed, dot)?.as_bytes()).map(done)
+            files::write(&out, drawn(&sheet, card.as_ref(), rules, needed, dot)?.as_bytes()).map(done)
         }
-        Command::Judge { sheet, cut, out } => {
+        Command::Judge { sheet, cut, rules, out } => {
             files::apart(&[&sheet], &out)?;
-            let judged = judged(&sheet, cut)?;
+            let judged = judged(&sheet, cut, rules)?;
             files::write(&out, judged.text.as_bytes()).map(|()| if judged.reached { REACHED } else { DONE })
         }
     }

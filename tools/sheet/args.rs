@@ -1,5 +1,6 @@
 // The command line, read. A fault is one line for the user.
 
+use super::rules::Rules;
 use std::ffi::OsString;
 
 // A file by name, or standard input or output.
@@ -21,22 +22,22 @@ pub enum Command {
     Say(&'static str),
     Assemble { text: File, out: File },
     Disassemble { sheet: File, out: File },
-    // Without a card the library is asked.
-    Draw { sheet: File, card: Option<File>, dot: bool, needed: bool, out: File },
+    // Without a card the library is asked. A card is of a listener with every rule.
+    Draw { sheet: File, card: Option<File>, rules: Rules, dot: bool, needed: bool, out: File },
     // Without a cut: every cut up to the first reached.
-    Judge { sheet: File, cut: Option<u32>, out: File },
+    Judge { sheet: File, cut: Option<u32>, rules: Rules, out: File },
 }
 
 // The version of the tool and of the library, as the C header has it.
-const VERSION: &str = "sheet 5.0.0\n";
+const VERSION: &str = "sheet 5.1.0\n";
 
 const HELP: &str = "\
 sheet - sheets as text, verdicts in names, and pictures of their ladders
 
-usage: sheet judge [SHEET] [--cut C] [-o FILE]            verdict, and steps or what is missing, by name
+usage: sheet judge [SHEET] [--cut C] [--without RULES] [-o FILE]    verdict, and steps or what is missing, by name
        sheet assemble    [TEXT] [-o FILE]                 text notation to sheet bytes
        sheet disassemble [SHEET] [-o FILE]                sheet bytes to text notation
-       sheet draw [--svg | --dot] [--needed] SHEET [CARD] [-o FILE]    picture of the ladder
+       sheet draw [--svg | --dot] [--needed] [--without RULES] SHEET [CARD] [-o FILE]    picture of the ladder
        sheet COMMAND --help
        sheet --version
 
@@ -47,11 +48,11 @@ judge ends with 0 for out of reach and 3 for reached.
 ";
 
 const JUDGE: &str = "\
-usage: sheet judge [SHEET] [--cut C] [-o FILE]
+usage: sheet judge [SHEET] [--cut C] [--without RULES] [-o FILE]
 
 Asks the proved library whether a listener gains the goal, and says it in names. SHEET is text notation or sheet bytes.
-The first line is the verdict, reached or out of reach. Then the atoms on the hull label if there are any, a line a cut, up to the first
-reached, and the steps in order:
+The first line is the verdict, reached or out of reach. Then the rules that the listener is without and the atoms on the hull label, if
+there are any, a line a cut, up to the first reached, and the steps in order:
 
     LEFT split left PAIR            RIGHT split right PAIR
     MESSAGE open SEAL with KEY      PAIR join LEFT, RIGHT
@@ -67,7 +68,12 @@ terms with which it sums to the goal, if there are any:
 
 What is missing is told by the lowest-numbered terms that will do. So list pads and masks above the keys that they hide.
 
-    --cut C    only the first C heard messages
+    --cut C            only the first C heard messages
+    --without RULES    a listener without these rules: one or more of left, right, open, join, seal, sum, unlock and lock, each once, with
+                       commas between them and no spaces
+
+Without sum, zero isn't free, no known term is used, and the goal itself is missing: a term, the sum of several that may each be known, or
+zero, the sum of nothing. Out of reach for a limited listener says nothing about one who has more rules.
 
 Status: 0 out of reach, 3 reached, 1 bad text, a refused sheet or an output that can't be written, 2 wrong usage.
 ";
@@ -105,7 +111,7 @@ A sheet that would be refused gives the refusal's number and word.
 ";
 
 const DRAW: &str = "\
-usage: sheet draw [--svg | --dot] [--needed] SHEET [CARD] [-o FILE]
+usage: sheet draw [--svg | --dot] [--needed] [--without RULES] SHEET [CARD] [-o FILE]
 
 Draws the ladder: a box for each rung, and for each atom on the hull label and each heard message that is used; lines from a rung's
 sources; the goal in gold. Boxes of the hull label have square corners.
@@ -114,9 +120,10 @@ which says nothing of what is missing: all that was heard, a wall, and the goal.
 SHEET is text notation (names become labels) or sheet bytes. CARD is what zuwendryk prints for it; without it the library is
 asked. One of them may be -. A long ladder is drawn in rows; a small box stands for a term of an earlier part.
 
-    --svg       SVG (the default)
-    --dot       Graphviz text
-    --needed    leaves out what the goal doesn't need, and says how much that is
+    --svg              SVG (the default)
+    --dot              Graphviz text
+    --needed           leaves out what the goal doesn't need, and says how much that is
+    --without RULES    for a listener without these rules, as for judge; the title names them. Not with a CARD, which has every rule
 ";
 
 // Options and file names of one command, as they stand on the line.
@@ -127,6 +134,7 @@ struct Words {
     formats: Vec<bool>,
     needed: bool,
     cut: Option<u32>,
+    rules: Option<Rules>,
     help: bool,
 }
 
@@ -138,6 +146,11 @@ fn cut_of(word: Option<OsString>) -> Result<u32, String> {
     let word = word.ok_or("--cut is the last word, expected a number after it")?;
     let digits = word.to_str().filter(|text| text.bytes().all(|b| b.is_ascii_digit()));
     digits.and_then(|text| text.parse().ok()).ok_or_else(|| format!("--cut {}: expected a number of heard messages", shown(&word)))
+}
+
+fn rules_of(word: Option<OsString>) -> Result<Rules, String> {
+    let word = word.ok_or("--without is the last word, expected rules after it")?;
+    Rules::without(&word.to_string_lossy()).map_err(|message| format!("--without {}: {message}", shown(&word)))
 }
 
 fn sort(words: impl Iterator<Item = OsString>, command: &str) -> Result<Words, String> {
@@ -155,6 +168,8 @@ fn sort(words: impl Iterator<Item = OsString>, command: &str) -> Result<Words, S
             Some("--needed") if draw => sorted.needed = true,
             Some("--cut") if judge && sorted.cut.is_some() => return Err("--cut is given twice, expected once".to_string()),
             Some("--cut") if judge => sorted.cut = Some(cut_of(words.next())?),
+            Some("--without") if (draw || judge) && sorted.rules.is_some() => return Err("--without is given twice, expected once".to_string()),
+            Some("--without") if draw || judge => sorted.rules = Some(rules_of(words.next())?),
             Some("-o") if sorted.out.is_some() => return Err("-o is given twice, expected once".to_string()),
             Some("-o") => sorted.out = Some(words.next().ok_or("-o is the last word, expected a file name after it")?),
             Some("-") => sorted.files.push(word),
@@ -187,7 +202,10 @@ fn draw(words: Words, out: File) -> Result<Command, String> {
     if sheet == File::Standard && card == Some(File::Standard) {
         return Err("SHEET and CARD can't both be standard input".to_string());
     }
-    Ok(Command::Draw { sheet, card, dot, needed: words.needed, out })
+    if card.is_some() && words.rules.is_some() {
+        return Err("found --without and CARD, expected one of them: a card is of a listener with every rule".to_string());
+    }
+    Ok(Command::Draw { sheet, card, rules: words.rules.unwrap_or(Rules::EVERY), dot, needed: words.needed, out })
 }
 
 // The command of a line without the program's own name.
@@ -208,7 +226,7 @@ pub fn parse(mut line: impl Iterator<Item = OsString>) -> Result<Command, String
     }
     let out = words.out.take().map_or(File::Standard, File::of);
     match name {
-        "judge" => Ok(Command::Judge { cut: words.cut, sheet: one(name, words.files)?, out }),
+        "judge" => Ok(Command::Judge { cut: words.cut, rules: words.rules.unwrap_or(Rules::EVERY), sheet: one(name, words.files)?, out }),
         "assemble" => Ok(Command::Assemble { text: one(name, words.files)?, out }),
         "disassemble" => Ok(Command::Disassemble { sheet: one(name, words.files)?, out }),
         _ => draw(words, out),

@@ -5,6 +5,7 @@ use super::heads::{add, Heads};
 use super::model::{Entry, Half, Sheet, ON_HULL_LABEL};
 use super::words::{decimal, end_of, fault, line, quoted, utf8, Fault, Line, Place, Word};
 
+// In the order of the rules' numbers, from 1.
 #[derive(Clone, Copy, Debug, PartialEq)]
 pub enum Rule {
     Left,
@@ -17,13 +18,24 @@ pub enum Rule {
     Lock,
 }
 
-const RULES: &str = "left, right, open, join, seal, sum, unlock or lock";
+// The rules with their words on a card.
+pub const RULES: [(&str, Rule); 8] = [
+    ("left", Rule::Left),
+    ("right", Rule::Right),
+    ("open", Rule::Open),
+    ("join", Rule::Join),
+    ("seal", Rule::Seal),
+    ("sum", Rule::Sum),
+    ("unlock", Rule::Unlock),
+    ("lock", Rule::Lock),
+];
+
+pub const ONE_RULE: &str = "left, right, open, join, seal, sum, unlock or lock";
 
 impl Rule {
-    fn of(word: &str) -> Option<Rule> {
-        let one = [("left", Rule::Left), ("right", Rule::Right), ("open", Rule::Open), ("join", Rule::Join)];
-        let other = [("seal", Rule::Seal), ("sum", Rule::Sum), ("unlock", Rule::Unlock), ("lock", Rule::Lock)];
-        one.into_iter().chain(other).find(|(name, _)| *name == word).map(|(_, rule)| rule)
+    // The rule of a word on a card.
+    pub fn of(word: &str) -> Option<Rule> {
+        RULES.into_iter().find(|(name, _)| *name == word).map(|(_, rule)| rule)
     }
 
     // The rule in the words of documents 01 and 02.
@@ -159,9 +171,9 @@ impl<'a> Replay<'a> {
         words(line, 0, "rung")?;
         let (head, place) = number(line, 1, "the gained entry")?;
         let rule = match line.words.get(2) {
-            None => return fault(line.end, format!("found the line's end, expected a rule: {RULES}")),
+            None => return fault(line.end, format!("found the line's end, expected a rule: {ONE_RULE}")),
             Some(word) => match Rule::of(word.text) {
-                None => return fault(word.place, format!("unknown word {}, expected {RULES}", quoted(word.text))),
+                None => return fault(word.place, format!("unknown word {}, expected {ONE_RULE}", quoted(word.text))),
                 Some(rule) => rule,
             },
         };

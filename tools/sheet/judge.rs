@@ -1,10 +1,11 @@
-// A verdict in names: the first line says it in plain words, then the public atoms if there are any, a line a cut, the rungs or what is
-// missing, and which names are one term. All of it comes from the library's call.
+// A verdict in names: the first line says it in plain words, then the rules that the listener is without and the public atoms if there are
+// any, a line a cut, the rungs or what is missing, and which names are one term. All of it comes from the library's calls.
 
 use super::bytes::{encode, refusal_word};
 use super::card::{Lack, Rule, Rung};
 use super::model::{Sheet, ON_HULL_LABEL};
-use super::notes::{counted, public_atoms};
+use super::notes::{counted, listed, public_atoms};
+use super::rules::Rules;
 use super::verdict::{gained_at_start, head_of_first, verdict, verdicts, Verdict};
 use std::collections::BTreeSet;
 
@@ -21,7 +22,7 @@ pub fn refused(number: u32) -> String {
     }
 }
 
-fn out_of_reach_line(sheet: &Sheet, public: &[usize], cut: usize) -> String {
+fn out_of_reach_line(sheet: &Sheet, public: &[usize], cut: usize, rules: Rules) -> String {
     let (goal, all) = (sheet.heading(sheet.goal), sheet.heard.len());
     let names = if public.is_empty() { String::new() } else { format!("the {} and ", public_atoms(public.len())) };
     let heard = match cut {
@@ -29,7 +30,8 @@ fn out_of_reach_line(sheet: &Sheet, public: &[usize], cut: usize) -> String {
         _ if cut < all => format!("the first {cut} of {all} heard messages"),
         _ => format!("the {}", counted(all, "heard message", "heard messages")),
     };
-    format!("out of reach: no row of steps from {names}{heard} gains {goal}, through terms of any size\n")
+    let limit = if rules == Rules::EVERY { String::new() } else { format!("without {} ", listed(&rules.lacking())) };
+    format!("out of reach: {limit}no row of steps from {names}{heard} gains {goal}, through terms of any size\n")
 }
 
 fn reached_line(sheet: &Sheet, public: &[usize], cut: usize, rungs: usize) -> String {
@@ -48,11 +50,16 @@ fn reached_line(sheet: &Sheet, public: &[usize], cut: usize, rungs: usize) -> St
 }
 
 // The verdict of one cut in plain words.
-fn first_line(sheet: &Sheet, public: &[usize], cut: usize, verdict: &Verdict) -> String {
+fn first_line(sheet: &Sheet, public: &[usize], cut: usize, verdict: &Verdict, rules: Rules) -> String {
     match verdict {
-        Verdict::OutOfReach { .. } => out_of_reach_line(sheet, public, cut),
+        Verdict::OutOfReach { .. } => out_of_reach_line(sheet, public, cut, rules),
         Verdict::Reached(rungs) => reached_line(sheet, public, cut, rungs.len()),
     }
+}
+
+// The rules that the listener is without; nothing where he has every one.
+fn rules_line(rules: Rules) -> String {
+    if rules == Rules::EVERY { String::new() } else { format!("the listener is without: {}\n", rules.lacking().join(", ")) }
 }
 
 // The public atoms by name; nothing where the sheet has none.
@@ -89,15 +96,22 @@ fn rung_line(sheet: &Sheet, rung: &Rung) -> String {
     format!("{} {words}{space}{}\n", sheet.label(rung.head), names.join(between))
 }
 
-// What is missing of the goal, and the known terms that are used with it.
-fn lack_lines(sheet: &Sheet, lack: &Lack) -> String {
+// What is missing of the goal, and the known terms that are used with it. Without sum it is the goal itself, which may be zero.
+fn lack_lines(sheet: &Sheet, lack: &Lack, rules: Rules) -> String {
     let names = |list: &[usize]| list.iter().map(|entry| sheet.heading(*entry)).collect::<Vec<_>>().join(", ");
-    let sum = if lack.missing.len() > 1 { "the sum of " } else { "" };
-    let text = format!("missing: {sum}{}\n", names(&lack.missing));
+    let goal = sheet.heading(sheet.goal);
+    let text = match lack.missing.len() {
+        0 => "missing: the sum of nothing, which is zero\n".to_string(),
+        1 => format!("missing: {}\n", names(&lack.missing)),
+        _ => format!("missing: the sum of {}\n", names(&lack.missing)),
+    };
+    if !rules.have(Rule::Sum) {
+        return text + &format!("without sum no known term is used: {goal} itself is missing\n");
+    }
     if lack.used.is_empty() {
         return text;
     }
-    text + &format!("{} is the sum of what is missing and {}\n", sheet.heading(sheet.goal), names(&lack.used))
+    text + &format!("{goal} is the sum of what is missing and {}\n", names(&lack.used))
 }
 
 // The entries that the lines behind the cuts name.
@@ -143,23 +157,23 @@ fn refused_cut(number: u32, sheet: &Sheet, cut: Option<u32>) -> String {
     }
 }
 
-// Judges a sheet's bytes after one cut, or after each up to the first reached. `sheet` has the names.
-pub fn judge(bytes: &[u8], sheet: &Sheet, cut: Option<u32>) -> Result<Judged, String> {
+// Judges a sheet's bytes after one cut, or after each up to the first reached, by these rules. `sheet` has the names.
+pub fn judge(bytes: &[u8], sheet: &Sheet, cut: Option<u32>, rules: Rules) -> Result<Judged, String> {
     let asked = match cut {
-        Some(cut) => verdict(bytes, cut).map(|answer| (cut as usize, vec![answer])),
-        None => verdicts(bytes, sheet.heard.len()).map(|list| (0, list)),
+        Some(cut) => verdict(bytes, cut, rules).map(|answer| (cut as usize, vec![answer])),
+        None => verdicts(bytes, sheet.heard.len(), rules).map(|list| (0, list)),
     };
     let (first, list) = asked.map_err(|number| refused_cut(number, sheet, cut))?;
     let cut = first + list.len() - 1;
     let last = list.last().cloned().unwrap_or(Verdict::OutOfReach { known: 0, lack: Lack::default() });
     let public = gained_at_start(bytes);
-    let mut text = first_line(sheet, &public, cut, &last) + &public_line(sheet, &public);
+    let mut text = first_line(sheet, &public, cut, &last, rules) + &rules_line(rules) + &public_line(sheet, &public);
     for (i, verdict) in list.iter().enumerate() {
         text += &cut_line(sheet, first + i, verdict);
     }
     match &last {
         Verdict::Reached(rungs) => rungs.iter().for_each(|rung| text += &rung_line(sheet, rung)),
-        Verdict::OutOfReach { lack, .. } => text += &lack_lines(sheet, lack),
+        Verdict::OutOfReach { lack, .. } => text += &lack_lines(sheet, lack, rules),
     }
     text += &same_lines(sheet, &public, cut, &last);
     Ok(Judged { text, reached: matches!(last, Verdict::Reached(_)) })

@@ -15,7 +15,7 @@ pub fn public_atoms(n: usize) -> String {
 }
 
 // A list in a sentence: `a`, `a and b`, `a, b and c`.
-fn listed(items: &[String]) -> String {
+pub fn listed(items: &[String]) -> String {
     match items {
         [first @ .., one, last] => first.iter().map(|item| format!("{item}, ")).collect::<String>() + &format!("{one} and {last}"),
         _ => items.concat(),

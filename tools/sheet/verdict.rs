@@ -1,6 +1,7 @@
-// The library's verdict call, and its output buffer read. The numbers of the buffer's layout stand in this file alone.
+// The library's verdict calls, and their output buffer read. The numbers of the buffer's layout stand in this file alone.
 
 use super::card::{Card, Lack, Rule, Rung};
+use super::rules::Rules;
 
 const SET_BYTES: usize = 32;
 // The sets that stand before the rungs, in this order.
@@ -15,6 +16,7 @@ const BUDGET: u32 = 256;
 
 extern "C" {
     fn zuwendryk_verdict(sheet: *const u8, sheet_len: usize, cut: u32, budget: u32, buffer: *mut u8, buffer_len: usize) -> u32;
+    fn zuwendryk_limited_verdict(sheet: *const u8, sheet_len: usize, cut: u32, budget: u32, rules: u8, buffer: *mut u8, buffer_len: usize) -> u32;
 }
 
 #[derive(Clone, Debug, PartialEq)]
@@ -24,10 +26,14 @@ pub enum Verdict {
 }
 
 // The answer's number, and the buffer behind it.
-fn call(sheet: &[u8], cut: u32, budget: u32) -> (u32, Vec<u8>) {
+fn call(sheet: &[u8], cut: u32, budget: u32, rules: Rules) -> (u32, Vec<u8>) {
     let mut buffer = vec![0; FRONT + RUNG_BYTES * budget as usize];
+    let (bytes, len, space) = (sheet.as_ptr(), sheet.len(), buffer.len());
     // Both areas are slices, so neither pointer is null and they don't overlap.
-    let answer = unsafe { zuwendryk_verdict(sheet.as_ptr(), sheet.len(), cut, budget, buffer.as_mut_ptr(), buffer.len()) };
+    let answer = match rules {
+        Rules::EVERY => unsafe { zuwendryk_verdict(bytes, len, cut, budget, buffer.as_mut_ptr(), space) },
+        _ => unsafe { zuwendryk_limited_verdict(bytes, len, cut, budget, rules.byte(), buffer.as_mut_ptr(), space) },
+    };
     (answer, buffer)
 }
 
@@ -57,9 +63,9 @@ fn rung(bytes: &[u8]) -> Option<Rung> {
     Some(Rung { head: number(0), rule, sources })
 }
 
-// The verdict after the first `cut` messages, or the number that came back instead of one.
-pub fn verdict(sheet: &[u8], cut: u32) -> Result<Verdict, u32> {
-    let (answer, buffer) = call(sheet, cut, BUDGET);
+// The verdict on a listener with these rules after the first `cut` messages, or the number that came back instead of one.
+pub fn verdict(sheet: &[u8], cut: u32, rules: Rules) -> Result<Verdict, u32> {
+    let (answer, buffer) = call(sheet, cut, BUDGET, rules);
     let made = answer as usize % 1000;
     match answer {
         1000..=1256 => {
@@ -76,22 +82,22 @@ pub fn verdict(sheet: &[u8], cut: u32) -> Result<Verdict, u32> {
 
 // What a listener has gained who heard nothing and made no step: the public atoms, each as its head, in rising order.
 pub fn gained_at_start(sheet: &[u8]) -> Vec<usize> {
-    let (answer, buffer) = call(sheet, 0, 0);
+    let (answer, buffer) = call(sheet, 0, 0, Rules::EVERY);
     if answer < 1000 { vec![] } else { front(&buffer, GAINED) }
 }
 
 // The lowest-numbered entry of the same term as the first heard message: what a listener has gained who heard it and made no step. The
 // sheet has no public atom; such an atom would be gained too.
 pub fn head_of_first(sheet: &[u8]) -> Option<usize> {
-    let (answer, buffer) = call(sheet, 1, 0);
+    let (answer, buffer) = call(sheet, 1, 0, Rules::EVERY);
     if answer < 1000 { None } else { front(&buffer, GAINED).first().copied() }
 }
 
-// The verdicts at each cut up to the first that is reached, as the program's card has them.
-pub fn verdicts(sheet: &[u8], heard: usize) -> Result<Vec<Verdict>, u32> {
+// The verdicts at each cut up to the first that is reached, as the program's card has them of a listener with every rule.
+pub fn verdicts(sheet: &[u8], heard: usize, rules: Rules) -> Result<Vec<Verdict>, u32> {
     let mut list = Vec::new();
     for cut in 0..=heard as u32 {
-        list.push(verdict(sheet, cut)?);
+        list.push(verdict(sheet, cut, rules)?);
         if let Some(Verdict::Reached(_)) = list.last() {
             break;
         }
@@ -99,9 +105,12 @@ pub fn verdicts(sheet: &[u8], heard: usize) -> Result<Vec<Verdict>, u32> {
     Ok(list)
 }
 
-// The card that these verdicts make.
-pub fn card(list: &[Verdict]) -> Card {
+// The card that these verdicts make. Without sum it is the goal itself that is missing, given here as its head.
+pub fn card(list: &[Verdict], rules: Rules, goal: usize) -> Card {
     match list.last() {
+        Some(Verdict::OutOfReach { known, .. }) if !rules.have(Rule::Sum) => {
+            Card::OutOfReach { known: *known, lack: Some(Lack { used: vec![], missing: vec![goal] }) }
+        }
         Some(Verdict::Reached(rungs)) => Card::Reached { cut: list.len() - 1, rungs: rungs.clone() },
         Some(Verdict::OutOfReach { known, lack }) => Card::OutOfReach { known: *known, lack: Some(lack.clone()) },
         None => Card::OutOfReach { known: 0, lack: None },
