@@ -1,7 +1,7 @@
 -- Two verdicts by two settings, one of which includes the other (document 02, E11: "turning a switch on").
 -- Shown, for every good sheet and cut: a goal reached in the smaller is not out of reach in the larger, whatever the two budgets (`reached-not-out`), and with a
 -- budget of at least the number of entries it is reached there (`reached-stays`); where the goal is out of reach in the larger, the gained set has every member
--- of the smaller's (`gained-stays`). Each is drawn from `Meets` alone. `switch-on` says both of the calls at budget 256. `rungs-allowed`: every rung of a
+-- of the smaller's (`gained-stays`). Each is drawn from `Meets` alone. `switch-on` says both of the calls at budget 256. `steps-allowed`: every rung of a
 -- call is by a rule that is on, whatever the verdict. Assumes nothing.
 use mathlib.Core.Path.{_≡_, subst}
 use mathlib.Core.Bool.{true}
@@ -31,9 +31,9 @@ use Rattle.limited.specs.Switch.{SwitchedIn, IsOut}
 use Rattle.limited.proofs.Switch.{switched-includes}
 
 -- "a ladder returned uses no other": each rung is by a rule that is on, whatever the verdict
-pub rungs-allowed : {on : Setting} {s : List ℕ} {cut budget : ℕ} {old out : List ℕ} {answer : ℕ} (m : Meets on s cut budget old out answer)
+pub steps-allowed : {on : Setting} {s : List ℕ} {cut budget : ℕ} {old out : List ℕ} {answer : ℕ} (m : Meets on s cut budget old out answer)
     → (r : Step) → List·Memᴰ r (stepsIn out (m .count)) → Allowed on r
-rungs-allowed m = made-allowed (course-made (m .course))
+steps-allowed m = made-allowed (course-made (m .course))
 
 module _ {s : List ℕ} {cut : ℕ} (ok : refusal s ≡ 0) (within : cut ≤ traceLength s) {on more : Setting} (includes : Includes on more)
     {b c : ℕ} {old out old′ out′ : List ℕ} {answer answer′ : ℕ} (m : Meets on s cut b old out answer) (m′ : Meets more s cut c old′ out′ answer′) where
