@@ -6,6 +6,7 @@
 mod sheets;
 #[allow(dead_code)]
 mod cards;
+mod failures;
 #[allow(dead_code)]
 mod kinds;
 mod larger;
@@ -15,6 +16,7 @@ mod plain;
 #[allow(dead_code)]
 mod reading;
 mod records;
+use failures::Failures;
 use larger::Larger;
 use reading::{add, all_sums, expected, highest, members, missing_part, read, replay, set_bytes, standard, work, Answer, Set, Term, EVERY_RULE};
 use sheets::{damage, random_entries, sheet, Entry, Random, ATOMS, FRONT};
@@ -35,7 +37,7 @@ const ROOM: usize = FRONT + 40 * 256;
 
 struct Tally {
     calls: u64,
-    failed: u64,
+    failures: Failures,
     reached: u64,
     out: u64,
     used: u64, // out of reach, with a used set that isn't empty
@@ -43,8 +45,6 @@ struct Tally {
     refused: u64,
     rules: [u64; 9],     // rungs by each rule
     refusals: [u64; 13], // calls refused by each number
-    // ends the test at the first failure, for libraries that are wrong on purpose
-    first_only: bool,
 }
 
 impl Tally {
@@ -73,7 +73,7 @@ impl Tally {
             let places = (0..length).filter(|&i| area[16 + i] != buffer[i]).take(4).collect::<Vec<usize>>();
             let sheet = if s.len() < 200 { format!("{s:?}") } else { format!("of {} bytes", s.len()) };
             let call = format!("cut {cut} budget {budget} length {length} sheet {sheet}");
-            self.fail(&format!("{what}: library {got}, text {number}, bytes differ at {places:?}, guards kept: {guarded}; {call}"));
+            self.failures.add(&format!("{what}: library {got}, text {number}, bytes differ at {places:?}, guards kept: {guarded}; {call}"));
         }
     }
 
@@ -82,7 +82,7 @@ impl Tally {
         let (sheet, rungs) = (read(s), 40 * (answer as usize % 1000));
         let replayed = buffer.get(FRONT..FRONT + rungs).map(|rungs| replay(&sheet, cut, rungs));
         if !matches!(replayed, Some(Ok(state)) if state.contains(&sheet.terms[sheet.goal]) == (answer / 1000 == 1)) {
-            self.fail(&format!("{what}: the rungs of {answer} at cut {cut} don't replay; sheet {s:?}"));
+            self.failures.add(&format!("{what}: the rungs of {answer} at cut {cut} don't replay; sheet {s:?}"));
         }
     }
 
@@ -91,7 +91,7 @@ impl Tally {
         let got = verdict(s, cut, budget, &mut vec![0; length]);
         self.calls += 1;
         if got != want {
-            self.fail(&format!("{what}: {got}, wanted {want}"));
+            self.failures.add(&format!("{what}: {got}, wanted {want}"));
         }
     }
 
@@ -108,7 +108,7 @@ impl Tally {
         verdict(s, cut, 0, &mut buffer);
         self.calls += 1;
         if buffer[..32] != set_bytes(gained.iter().copied()) {
-            self.fail(&format!("{what}: gained {:?}, wanted {gained:?}", members(&buffer[..32])));
+            self.failures.add(&format!("{what}: gained {:?}, wanted {gained:?}", members(&buffer[..32])));
         }
     }
 
@@ -118,7 +118,7 @@ impl Tally {
         let answers = [0, 1].map(|i| verdict(sheets[i], cuts[i] as u32, budget as u32, &mut outs[i]));
         self.calls += 1;
         if answers[0] < 1000 || answers[0] != answers[1] || outs[0] != outs[1] {
-            self.fail(&format!("{what}: {answers:?} at cuts {cuts:?}, budget {budget}, same bytes: {}, sheets {sheets:?}", outs[0] == outs[1]));
+            self.failures.add(&format!("{what}: {answers:?} at cuts {cuts:?}, budget {budget}, same bytes: {}, sheets {sheets:?}", outs[0] == outs[1]));
         }
     }
 
@@ -130,17 +130,7 @@ impl Tally {
         let sets = [used, remainder].map(|set| set_bytes(set.iter().map(|e| usize::from(*e)))).concat();
         if got != number || buffer[32..FRONT] != sets[..] {
             let [used, remainder] = [32..64, 64..FRONT].map(|place| members(&buffer[place]));
-            self.fail(&format!("{what}: {got}, used {used:?}, remainder {remainder:?}"));
-        }
-    }
-
-    fn fail(&mut self, what: &str) {
-        self.failed += 1;
-        if self.failed < 10 {
-            println!("{what}");
-        }
-        if self.first_only {
-            std::process::exit(1);
+            self.failures.add(&format!("{what}: {got}, used {used:?}, remainder {remainder:?}"));
         }
     }
 
@@ -272,7 +262,7 @@ fn every_pair(t: &mut Tally, r: &mut Random) -> u64 {
             pairs.extend(remainders.iter().filter(fits).map(|(remainder, _)| (used.clone(), remainder.clone())));
         }
         if pairs != [missing_part(&sheet, &w)] {
-            t.fail(&format!("{entries:?} heard {heard:?} goal {goal}: {pairs:?}"));
+            t.failures.add(&format!("{entries:?} heard {heard:?} goal {goal}: {pairs:?}"));
         }
     }
     tried
@@ -292,7 +282,7 @@ fn larger_sheets(t: &mut Tally) {
                 t.calls += 1;
                 if !larger.judged(EVERY_RULE, cut, answer, &buffer) || !larger.holds(EVERY_RULE, cut, answer, &buffer) {
                     let sets = [0..32, 32..64, 64..FRONT].map(|place| members(&buffer[place]));
-                    t.fail(&format!("{entries:?} heard {heard:?} goal {goal} cut {cut} budget {budget}: {answer}, gained, used and remainder {sets:?}"));
+                    t.failures.add(&format!("{entries:?} heard {heard:?} goal {goal} cut {cut} budget {budget}: {answer}, gained, used and remainder {sets:?}"));
                 }
             }
         }
@@ -537,8 +527,8 @@ fn stated_cases(t: &mut Tally) {
 }
 
 fn main() {
-    let first_only = std::env::args().nth(1).as_deref() == Some("first");
-    let mut t = Tally { calls: 0, failed: 0, reached: 0, out: 0, used: 0, stopped: 0, refused: 0, rules: [0; 9], refusals: [0; 13], first_only };
+    let failures = Failures::default();
+    let mut t = Tally { calls: 0, failures, reached: 0, out: 0, used: 0, stopped: 0, refused: 0, rules: [0; 9], refusals: [0; 13] };
     let mut r = Random(0x2545f4914f6cdd1d);
     stated_cases(&mut t);
     small_sheets(&mut t, &mut r);
@@ -553,7 +543,7 @@ fn main() {
     println!("brute force: {} calls, {} reached, {} out of reach, {} of them with a used set, {} stopped, {} refused", t.calls, t.reached, t.out, t.used, t.stopped, t.refused);
     println!("rungs by rules 1 to 8: {:?}; refusals 1 to 12: {:?}", &t.rules[1..], &t.refusals[1..]);
     println!("off the sheet: {tried} tried; every pair of used set and remainder: {pairs} sheets");
-    let bad = t.failed + failed;
+    let bad = t.failures.count + failed;
     println!("brute: {} passed, {} failed", t.calls + tried - bad.min(t.calls + tried), bad);
     let seen = [t.reached, t.out, t.used, t.stopped, t.refused, t.refusals[12]].into_iter().chain(t.rules[1..].iter().copied());
     if bad > 0 || seen.min() < Some(1000) {

@@ -2,10 +2,12 @@
 // good and damaged, small and large. Then the benchmarks of both revisions, each over its own archive, are run in turn. Built by tests/compare; not
 // part of the gate, since it needs the earlier archive.
 
+mod failures;
 #[allow(dead_code)]
 mod sheets;
 #[allow(dead_code)]
 mod kinds;
+use failures::Failures;
 use kinds::Parts;
 use sheets::{damage, full_sheet, lock_entries, random_entries, refusal, sheet, Entry, Random, FRONT};
 use std::process::Command;
@@ -49,17 +51,10 @@ struct Tally {
     locks: [u64; 4],    // those of sheets with halves or locks
     sheets: u64,
     good: u64,
-    failed: u64,
+    failures: Failures,
 }
 
 impl Tally {
-    fn fail(&mut self, what: &str) {
-        self.failed += 1;
-        if self.failed < 10 {
-            println!("{what}");
-        }
-    }
-
     // One call of each, with the same bytes in its buffer: the verdict, the earlier one, and the verdict with every rule on.
     fn call(&mut self, s: &[u8], cut: u32, budget: u32, length: usize) {
         let before: Vec<u8> = (0..length).map(|i| (i * 37 + 11) as u8).collect();
@@ -72,7 +67,7 @@ impl Tally {
         let kept = answers[0] >= 1000 || outs[0] == before;
         let same = [1, 2].map(|i| answers[i] == answers[0] && outs[i] == outs[0]);
         if same != [true; 2] || !kept {
-            self.fail(&format!("sheet {s:?} cut {cut} budget {budget}, {length} bytes: answers {answers:?}, same: {same:?}, kept where refused: {kept}"));
+            self.failures.add(&format!("sheet {s:?} cut {cut} budget {budget}, {length} bytes: answers {answers:?}, same: {same:?}, kept where refused: {kept}"));
         }
     }
 
@@ -82,7 +77,7 @@ impl Tally {
         let (validated, table) = (unsafe { [zuwendryk_validate(s.as_ptr(), s.len()), earlier_validate(s.as_ptr(), s.len())] }, refusal(s));
         self.good += u64::from(table == 0);
         if validated != [table; 2] {
-            self.fail(&format!("sheet {s:?}: validate now and earlier {validated:?}, by the table {table}"));
+            self.failures.add(&format!("sheet {s:?}: validate now and earlier {validated:?}, by the table {table}"));
         }
         let h = if s.len() >= 8 { u32::from(u16::from_be_bytes([s[6], s[7]])).min(256) } else { 0 };
         for cut in [0, h / 3, h, h + 1] {
@@ -97,7 +92,7 @@ impl Tally {
     fn all(&mut self, good: Vec<u8>, r: &mut Random) {
         self.sheet(&good, r);
         if refusal(&good) != 0 {
-            self.fail(&format!("sheet {good:?} is refused"));
+            self.failures.add(&format!("sheet {good:?} is refused"));
         }
         let locked = with_locks(&good);
         self.sheet(&locked, r);
@@ -205,8 +200,8 @@ fn main() {
     let calls = refused + reached + out + stopped;
     println!("compare: {} sheets, {} of them good; none is left out", t.sheets, t.good);
     println!("compare: with halves or locks {} reached, {} out of reach, {} stopped, {} refused", t.locks[1], t.locks[2], t.locks[3], t.locks[0]);
-    println!("compare: {calls} calls, {reached} reached, {out} out of reach, {stopped} stopped, {refused} refused; {} failed", t.failed);
-    if t.failed > 0 || t.verdicts.iter().chain(&t.locks).any(|&v| v < 10_000) {
+    println!("compare: {calls} calls, {reached} reached, {out} out of reach, {stopped} stopped, {refused} refused; {} failed", t.failures.count);
+    if t.failures.count > 0 || t.verdicts.iter().chain(&t.locks).any(|&v| v < 10_000) {
         std::process::exit(1);
     }
     times(&std::env::args().skip(1).collect::<Vec<String>>());

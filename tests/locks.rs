@@ -21,7 +21,7 @@ fn rungs(t: &mut Tally, what: &str, entries: &[Entry], heard: &[u16], goal: u16,
     let printed: String = buffer[FRONT..].chunks(40).take(made).map(rung_line).collect();
     t.calls += 1;
     if printed != lines.iter().map(|line| format!("rung {line}\n")).collect::<String>() {
-        t.fail(&format!("{what}: rungs\n{printed}wanted {lines:?}"));
+        t.failures.add(&format!("{what}: rungs\n{printed}wanted {lines:?}"));
     }
 }
 
@@ -248,7 +248,7 @@ fn replays(t: &mut Tally) {
         let rung = [fields.map(u16::to_be_bytes).concat(), set_bytes(set.iter().copied()).to_vec()].concat();
         t.calls += 1;
         if replay(s, cut, &rung).is_ok() != right {
-            t.fail(&format!("the replay of {what}: {fields:?} and {set:?}"));
+            t.failures.add(&format!("the replay of {what}: {fields:?} and {set:?}"));
         }
     };
     check("unlock", &unlock, 7, [0, 7, 3, 2], &[], true);
@@ -420,7 +420,7 @@ fn beside_plain(t: &mut Tally) {
                 let answers = [verdict(&s, cut as u32, budget as u32, ours), plain::verdict(&s, cut as u32, budget as u32, other)];
                 t.calls += 1;
                 if answers[0] != answers[1] || ours != other {
-                    t.fail(&format!("{entries:?} heard {heard:?} goal {goal} cut {cut} budget {budget}: {answers:?}"));
+                    t.failures.add(&format!("{entries:?} heard {heard:?} goal {goal} cut {cut} budget {budget}: {answers:?}"));
                 }
             }
         }

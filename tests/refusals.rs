@@ -1,8 +1,10 @@
 // The refusals, on the built library: each row of the grounding table and row 12 with its neighbours on both sides, several faults at once to show the
 // order, and many damaged sheets against a second reading of the table. A refused verdict keeps every byte of the buffer and around it.
 
+mod failures;
 #[allow(dead_code)] // each test uses a part
 mod sheets;
+use failures::Failures;
 use sheets::{damage, full_sheet, random_entries, refusal, sheet, Entry, Random, FRONT, LONGEST};
 
 extern "C" {
@@ -22,10 +24,8 @@ fn verdict(s: &[u8], cut: u32, budget: u32, buffer: &mut [u8]) -> u32 {
 
 struct Count {
     passed: u32,
-    failed: u32,
+    failures: Failures,
     numbers: [u32; 13], // sheets by the refusal wanted
-    // ends the test at the first failure, for libraries that are wrong on purpose
-    first_only: bool,
 }
 
 impl Count {
@@ -36,7 +36,7 @@ impl Count {
         if got == want && refusal(s) == want {
             self.passed += 1;
         } else {
-            self.fail(&format!("{what}: library {got}, reading {}, wanted {want}", refusal(s)));
+            self.failures.add(&format!("{what}: library {got}, reading {}, wanted {want}", refusal(s)));
         }
         self.call(what, s, 0, 0, FRONT, want);
         self.call(what, s, u32::MAX, u32::MAX, 0, if want == 0 { 8 } else { want });
@@ -51,15 +51,7 @@ impl Count {
         if kept && (got == want || want == 0 && (1000..4000).contains(&got)) {
             self.passed += 1;
         } else {
-            self.fail(&format!("{what}: verdict {got} at cut {cut}, budget {budget} and {length} bytes, wanted {want}, bytes kept: {kept}"));
-        }
-    }
-
-    fn fail(&mut self, what: &str) {
-        self.failed += 1;
-        println!("{what}");
-        if self.first_only {
-            std::process::exit(1);
+            self.failures.add(&format!("{what}: verdict {got} at cut {cut}, budget {budget} and {length} bytes, wanted {want}, bytes kept: {kept}"));
         }
     }
 }
@@ -444,8 +436,7 @@ fn damaged_locks(c: &mut Count) {
 }
 
 fn main() {
-    let first_only = std::env::args().nth(1).as_deref() == Some("first");
-    let mut c = Count { passed: 0, failed: 0, numbers: [0; 13], first_only };
+    let mut c = Count { passed: 0, failures: Failures::default(), numbers: [0; 13] };
     row_1(&mut c);
     longest(&mut c);
     longest_refused(&mut c);
@@ -463,8 +454,8 @@ fn main() {
     damaged(&mut c);
     damaged_locks(&mut c);
     println!("refusals by number, 0 for none: {:?}", c.numbers);
-    println!("refusals: {} passed, {} failed", c.passed, c.failed);
-    if c.failed > 0 || (0..8).chain([12]).any(|number| c.numbers[number] < 1000) {
+    println!("refusals: {} passed, {} failed", c.passed, c.failures.count);
+    if c.failures.count > 0 || (0..8).chain([12]).any(|number| c.numbers[number] < 1000) {
         std::process::exit(1);
     }
 }

@@ -7,6 +7,7 @@
 mod sheets;
 #[allow(dead_code)]
 mod cards;
+mod failures;
 #[allow(dead_code)]
 mod kinds;
 mod larger;
@@ -20,6 +21,7 @@ mod settings_larger;
 mod settings_refused;
 mod settings_small;
 mod settings_stated;
+use failures::Failures;
 use reading::{judged, members, read, refused, replay, uses_only, Setting, Sheet};
 use sheets::{refusal, sheet, Entry, Random, FRONT};
 
@@ -86,7 +88,7 @@ impl Called {
 
 struct Tally {
     calls: u64,
-    failed: u64,
+    failures: Failures,
     verdicts: [[u64; 4]; 2], // without sum and with it: refused, reached, out of reach, stopped
     rules: [u64; 9],         // rungs by each rule, in settings other than the full one
     settings: [u64; 256],    // verdicts in each setting
@@ -101,20 +103,9 @@ struct Tally {
     larger: [u64; 4],       // verdicts on larger sheets
     larger_rules: [u64; 9], // and rungs by each rule
     pattern: Vec<u8>,
-    first_only: bool, // ends the test at the first failure, for libraries that are wrong on purpose
 }
 
 impl Tally {
-    fn fail(&mut self, what: &str) {
-        self.failed += 1;
-        if self.failed < 10 {
-            println!("{what}");
-        }
-        if self.first_only {
-            std::process::exit(1);
-        }
-    }
-
     // One call between guards. Number and bytes are the reading's, whatever stood in the buffer; the rungs replay; with every rule on the full verdict
     // answers the same.
     fn call(&mut self, what: &str, on: &Subject, rules: u8, cut: u32, budget: u32, length: usize) -> Called {
@@ -150,7 +141,7 @@ impl Tally {
         let sheet = if on.bytes.len() < 300 { format!("{:?}", on.bytes) } else { format!("of {} bytes", on.bytes.len()) };
         let Called { rules, cut, budget, answer, buffer } = called;
         let length = buffer.len();
-        self.fail(&format!("{what}: setting {rules} answer {answer}: {why}; cut {cut} budget {budget} length {length} sheet {sheet}"));
+        self.failures.add(&format!("{what}: setting {rules} answer {answer}: {why}; cut {cut} budget {budget} length {length} sheet {sheet}"));
     }
 
     // "all other calls have every rule on": with every rule on number and bytes are the full verdict's.
@@ -219,8 +210,8 @@ impl Tally {
             self.verdicts[0][2], self.zero_goals, self.several);
         println!("settings: zero by another rule {}; beside the full verdict {}; pairs of settings {}, more gained {}; off the sheet {} tried, {} gained",
             self.zeros, self.full, self.pairs, self.grown, self.off[0], self.off[1]);
-        println!("settings: {} calls, {reached} reached, {out} out of reach, {stopped} stopped, {refused} refused, {} failed", self.calls, self.failed);
-        if self.failed > 0 || !self.seen() {
+        println!("settings: {} calls, {reached} reached, {out} out of reach, {stopped} stopped, {refused} refused, {} failed", self.calls, self.failures.count);
+        if self.failures.count > 0 || !self.seen() {
             std::process::exit(1);
         }
     }
@@ -229,7 +220,7 @@ impl Tally {
 fn main() {
     let mut t = Tally {
         calls: 0,
-        failed: 0,
+        failures: Failures::default(),
         verdicts: [[0; 4]; 2],
         rules: [0; 9],
         settings: [0; 256],
@@ -244,7 +235,6 @@ fn main() {
         larger: [0; 4],
         larger_rules: [0; 9],
         pattern: (0..ROOM + 2 * GUARD + 64).map(|i| (i * 37 + 11) as u8).collect(),
-        first_only: std::env::args().nth(1).as_deref() == Some("first"),
     };
     let mut r = Random(0x2545f4914f6cdd1d);
     settings_stated::cases(&mut t);

@@ -17,12 +17,12 @@ fn beside_plain(t: &mut Tally, s: &[u8], rules: u8, cut: usize, budget: usize) -
     let answers = [limited(s, cut as u32, budget as u32, rules, ours), plain::limited(s, cut as u32, budget as u32, rules, other)];
     t.calls += 1;
     if answers[0] != answers[1] || ours != other {
-        t.fail(&format!("setting {rules} cut {cut} budget {budget}: {answers:?}, same bytes: {}; sheet {s:?}", ours == other));
+        t.failures.add(&format!("setting {rules} cut {cut} budget {budget}: {answers:?}, same bytes: {}; sheet {s:?}", ours == other));
     }
     if rules == 255 {
         t.full += 1;
         if verdict(s, cut as u32, budget as u32, other) != answers[0] || ours != other {
-            t.fail(&format!("cut {cut} budget {budget}: {answers:?}, and the full verdict differs; sheet {s:?}"));
+            t.failures.add(&format!("cut {cut} budget {budget}: {answers:?}, and the full verdict differs; sheet {s:?}"));
         }
     }
     let [buffer, _] = outs;
@@ -55,7 +55,7 @@ fn judged(t: &mut Tally, s: &[u8], heard: usize, r: &mut Random) {
             if !same || !larger.judged(setting, cut, answer, &buffer) || !larger.holds(setting, cut, answer, &buffer) {
                 let sets = [0..32, 32..64, 64..FRONT].map(|place| members(&buffer[place]));
                 let call = format!("setting {rules} cut {cut} budget {budget}: {answer}");
-                t.fail(&format!("{call}, text {number}, same rungs: {same}, gained, used and remainder {sets:?}; sheet {s:?}"));
+                t.failures.add(&format!("{call}, text {number}, same rungs: {same}, gained, used and remainder {sets:?}; sheet {s:?}"));
             }
         }
     }
@@ -70,7 +70,7 @@ fn turned_on(t: &mut Tally, s: &[u8], heard: usize, r: &mut Random) {
         let lost = (0..32).any(|k| before.buffer[k] & !now.buffer[k] != 0);
         t.pairs += 1;
         if now.answer / 1000 == 2 && (before.answer / 1000 != 2 || lost) {
-            t.fail(&format!("setting {rules} gives {}, with a switch less {}, a term lost: {lost}; sheet {s:?}", now.answer, before.answer));
+            t.failures.add(&format!("setting {rules} gives {}, with a switch less {}, a term lost: {lost}; sheet {s:?}", now.answer, before.answer));
         }
         t.grown += u64::from(now.answer / 1000 == 2 && before.buffer[..32] != now.buffer[..32]);
         before = now;
@@ -92,7 +92,7 @@ fn every_setting(t: &mut Tally) {
         for cut in [1, 2] {
             let answer = beside_plain(t, &s, rules, cut as usize, 256).answer;
             if answer != want[cut as usize - 1] {
-                t.fail(&format!("the longest sheet, setting {rules} cut {cut}: {answer}, wanted {want:?}"));
+                t.failures.add(&format!("the longest sheet, setting {rules} cut {cut}: {answer}, wanted {want:?}"));
             }
         }
     }

@@ -51,7 +51,7 @@ fn each_refusal(t: &mut Tally) {
         for rules in 0..=255 {
             let answer = beside_full(t, &on, rules, cut, budget, length);
             if answer != want {
-                t.fail(&format!("setting {rules}: {answer}, wanted refusal {want}; sheet {:?}", on.bytes));
+                t.failures.add(&format!("setting {rules}: {answer}, wanted refusal {want}; sheet {:?}", on.bytes));
             }
         }
     }
@@ -81,7 +81,7 @@ fn lengths(t: &mut Tally, r: &mut Random) {
         for rules in [0, 255, r.below(256) as u8] {
             let short = beside_full(t, &on, rules, 1, budget, room - 1);
             if short != 10 || beside_full(t, &on, rules, 1, budget, room) < 1000 {
-                t.fail(&format!("setting {rules}, budget {budget}: {short} with {} bytes", room - 1));
+                t.failures.add(&format!("setting {rules}, budget {budget}: {short} with {} bytes", room - 1));
             }
         }
     }

@@ -98,7 +98,7 @@ pub fn off_the_sheet(t: &mut Tally, r: &mut Random) {
             t.off[0] += 1;
             t.off[1] += u64::from(gained);
             if gained && answer / 1000 != 1 {
-                t.fail(&format!("off the sheet the goal is gained: {entries:?} heard {heard:?} goal {goal} setting {rules}: {answer}"));
+                t.failures.add(&format!("off the sheet the goal is gained: {entries:?} heard {heard:?} goal {goal} setting {rules}: {answer}"));
             }
         }
     }
