@@ -34,8 +34,8 @@ pub mod Head
 pub mod Opener
 pub mod Numbers
 pub mod Drawn
-pub mod Offers
 pub mod Found
+pub mod Offers
 pub mod Order
 pub mod Next
 pub mod InOrder

@@ -15,8 +15,8 @@ use Rattle.deduction.proofs.Elimination.{learnt-all}
 use Rattle.deduction.proofs.Elimination.State.{Learnt}
 use Rattle.deduction.proofs.Steps.Head.{Heads, head-rep}
 use Rattle.deduction.proofs.Steps.Numbers.{numberOf, least-under, least-one}
-use Rattle.deduction.proofs.Steps.Offers.{follows-offered, follows-expand}
 use Rattle.deduction.proofs.Steps.Found.{offered-found}
+use Rattle.deduction.proofs.Steps.Offers.{follows-offered, follows-expand}
 use Rattle.deduction.proofs.Steps.Order.{Source, Small, small-below, before-number, agree}
 
 -- the gained head of a step that follows is open

@@ -10,14 +10,24 @@ use borrow.Rule.Slice.PartMut.{midOf, putMid}
 use Rattle.bitset.specs.Words.{bytesOf}
 use Rattle.bitset.proofs.Laws.Bytes.{length-bytesOf}
 use Rattle.bitset.proofs.Laws.Choice.{when-le}
-use Rattle.deduction.specs.Elimination.{Reduced}
+use Rattle.deduction.specs.Setting.{Setting}
+use Rattle.deduction.specs.Elimination.{Row, Reduced, reduce}
 use Rattle.deduction.specs.Run.{Verdict, derivable, underivable, exhausted}
 use Rattle.derive.proofs.Laws.Written.{withSet, set-stored}
 use Rattle.verdict.specs.Buffer.{front}
-use Rattle.verdict.specs.Answer.{missingAs, frontBytes}
+use Rattle.verdict.specs.Answer.{missingAs, missingBy, frontBytes}
 use Rattle.verdict.specs.Inner.Decide.{isUnderivable}
 
--- what the sum test hands back counts at out of reach alone
+-- with sum what is missing is what the sum test hands back, and without it the set itself
+pub missing-with-sum : (on : Setting) (rows : List Row) (v : ℕ) → on 6 ≡ true → missingBy on rows v ≡ reduce rows v
+unfolding missingBy
+missing-with-sum on rows v w = rw w
+
+pub missing-without-sum : (on : Setting) (rows : List Row) (v : ℕ) → on 6 ≡ false → missingBy on rows v ≡ record { remainder = v; used = 0 }
+unfolding missingBy
+missing-without-sum on rows v w = rw w
+
+-- it counts at out of reach alone
 pub missing-tested : (v : Verdict) (x : Reduced) → isUnderivable v ≡ true → x ≡ missingAs v x
 unfolding isUnderivable missingAs
 missing-tested derivable x p = absurd (false≢true p)

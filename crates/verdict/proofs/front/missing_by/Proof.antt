@@ -1,8 +1,11 @@
 -- `verdict::front::missing_by` meets its contract: by the switch of the sum rule.
 use mathlib.Core.Path.{sym, _∙_}
 use borrow.Author.Needs.{needs}
+use denote.Ref.{now}
 use Rattle.bitset.specs.Words.{value}
-use Rattle.verdict.specs.Answer.{missingBy}
+use Rattle.deduction.specs.Setting.{switches}
+use Rattle.knowledge.specs.Inner.Rows.{rowsOf}
+use Rattle.verdict.proofs.Laws.Front.{missing-with-sum, missing-without-sum}
 use Rattle.verdict.proofs.front.missing_by.Statement.{statement}
 use Rattle.verdict.proofs.front.missing_by.Tie as tie
 
@@ -13,15 +16,17 @@ reduce-requires : tie.Need-reduce-requires
 reduce-requires c κs = search needs
 
 returns : tie.Need-returns
-unfolding missingBy
-returns c = rw (sym (c .before .before .is-on .ensures) ∙ c .before .if1 .taken) (c .reduce .ensures)
+returns c = let s = c .before .before .before .args in
+    c .reduce .ensures
+    ∙ sym (missing-with-sum (switches (s .rules)) (rowsOf (now (s .rows)) (s .len)) (value (s .set)) (sym (c .before .before .is-on .ensures) ∙ c .before .if1 .taken))
 
 empty-requires : tie.Need-empty-requires
 empty-requires c κs = search needs
 
 returns-2 : tie.Need-returns-2
-unfolding missingBy
-returns-2 c = rw (sym (c .before .before .is-on .ensures) ∙ c .before .if1 .left) (λ i. record { remainder = value (c .before .before .before .args .set); used = c .empty .ensures i })
+returns-2 c = let s = c .before .before .before .args in
+    (λ i. record { remainder = value (s .set); used = c .empty .ensures i })
+    ∙ sym (missing-without-sum (switches (s .rules)) (rowsOf (now (s .rows)) (s .len)) (value (s .set)) (sym (c .before .before .is-on .ensures) ∙ c .before .if1 .left))
 
 pub missing-by-spec : {M : Type 1} → statement M
 missing-by-spec = tie.close (tie.spec is-on-requires reduce-requires returns empty-requires returns-2)
