@@ -42,7 +42,7 @@ pub exactness-from : (on : Setting) (e : ℕ → Entry) (n : ℕ) → Downward e
 exactness-from on e n down G closed start from g d = derivation-gained on (termAt e) e n down (termAt-build e n down) G closed from d
 
 -- entries of G as a start
-start-made : (on : Setting) (e : ℕ → Entry) (n : ℕ) (G : ℕ → Type 0) (start : List ℕ) → ((i : ℕ) → List·Memᴰ i start → (i < n) × G i)
+pub start-made : (on : Setting) (e : ℕ → Entry) (n : ℕ) (G : ℕ → Type 0) (start : List ℕ) → ((i : ℕ) → List·Memᴰ i start → (i < n) × G i)
     → (u : Term) → List·Memᴰ u (map (termAt e) start) → Synth on (termAt e) e n G (code u)
 start-made on e n G start from u m =
     let (j, q, s) = Memᴰ·of-map (termAt e) start m in
@@ -68,7 +68,7 @@ exactness-sums on e n down G closed start from g d w h =
         entry-places (termAt e) e n down (termAt-build e n down) j l p r
 
 -- what is reached within the sheet is closed
-reach-closed : (on : Setting) (t : ℕ → Term) (n : ℕ) (start : List ℕ) → Closed on t n (Reach on t n start)
+pub reach-closed : (on : Setting) (t : ℕ → Term) (n : ℕ) (start : List ℕ) → Closed on t n (Reach on t n start)
 reach-closed on t n start =
     record {
       same = λ i j hi hj r e. Reach.same hi hj r e;

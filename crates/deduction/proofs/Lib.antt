@@ -1,5 +1,5 @@
 -- Reading order: the code of a term, equality decided by it, terms with two parts, the terms of entries, exactness, elimination, the sets of standard entries,
--- the steps of a run, its verdicts and its replay, and what the rules switched on bring.
+-- the steps of a run, its verdicts and its replay, what the rules switched on bring, and atoms that stand in no entry.
 pub mod Coding
 pub mod Pieces
 pub mod Forms
@@ -10,4 +10,5 @@ pub mod Elimination
 pub mod Standard
 pub mod Steps
 pub mod Settings
+pub mod Fresh
 pub mod Examples

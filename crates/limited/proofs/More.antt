@@ -23,11 +23,12 @@ use Rattle.dag.proofs.Laws.Good.{good}
 use Rattle.start.specs.Start.{startHeads}
 use Rattle.verdict.specs.Buffer.{gainedIn, stepsIn}
 use Rattle.verdict.specs.Refused.{refusalOf}
+use Rattle.verdict.specs.Code.{IsOut}
 use Rattle.verdict.specs.Demands.{Meets, Demanded}
 use Rattle.verdict.proofs.Laws.Answered.{ok-sheet, ok-cut}
 use Rattle.verdict.proofs.Laws.Demands.{start-is-heads}
 use Rattle.verdict.proofs.Reading.{is-out, reached-derivable, out-underivable, reached-exact}
-use Rattle.limited.specs.Switch.{SwitchedIn, IsOut}
+use Rattle.limited.specs.Switch.{SwitchedIn}
 use Rattle.limited.proofs.Switch.{switched-includes}
 
 -- "a ladder returned uses no other": each rung is by a rule that is on, whatever the verdict

@@ -1,12 +1,13 @@
 -- What a caller may conclude from the number that comes back, for every good sheet. Each statement is drawn from a field of `Meets` alone.
--- Shown: `passes-derivable`; `reached-derivable`; `out-underivable`; `public-reached`, where the goal is a public atom; `out-exact`, `reached-exact`, with a
+-- Shown: `passes-derivable`; `answer-judged`, which numbers are no refusal; `reached-derivable`; `out-underivable`; `out-gained`, what the gained set says; `public-reached`, where the goal is a public atom; `out-exact`, `reached-exact`, with a
 -- budget of at least the number of entries; `stopped-used-up`, `steps-few`, `steps-fields`; what the used set and the remainder mean, `out-missing`,
 -- `missing-ungained`, `missing-underivable`, `missing-suffices`, `missing-highest`, `reached-nothing`, `stopped-nothing`. Assumes nothing.
 use mathlib.Core.Path.{_≡_, refl, sym, ap, _∙_}
 use mathlib.Core.Bool.{true}
-use mathlib.Core.Logic.{_↔_}
+use mathlib.Core.Logic.{_↔_, by-cases}
 use mathlib.Core.List.{List, _∷_, List·Memᴰ, Memᴰ·append-left}
 use Prim.Native.Nat.{ℕ, _+_, _≤_, _<_}
+use native.Mathlib.Decide.{ℕ-discrete}
 use native.Mathlib.Omega.{arith}
 use lib.ListN.{length}
 use Rattle.bitset.specs.Set.{member}
@@ -14,11 +15,13 @@ use Rattle.deduction.specs.Term.{Term}
 use Rattle.deduction.specs.Setting.{Setting}
 use Rattle.deduction.specs.Derivation.{Derivable, begin}
 use Rattle.deduction.specs.Entry.{Atom, termAt}
-use Rattle.deduction.specs.Standard.{StandardSet, sumOfSet}
+use Rattle.deduction.specs.Standard.{repAt, StandardSet, sumOfSet}
 use Rattle.deduction.specs.Step.{Step, FollowsIn}
 use Rattle.deduction.specs.Course.{Verdict, derivable, underivable, exhausted, Course}
 use Rattle.deduction.specs.Missing.{Missing}
-use Rattle.deduction.proofs.Steps.{replay-derivable, sound-heads, trace-derivable}
+use Rattle.deduction.proofs.Exactness.Derive.{derive-same}
+use Rattle.deduction.proofs.Standard.{rep-same}
+use Rattle.deduction.proofs.Steps.{replay-derivable, sound-heads, stuck-has, trace-derivable}
 use Rattle.deduction.proofs.Steps.Course.{course-made, course-heads, course-stuck, course-stopped, course-unique, head-gained}
 use Rattle.deduction.proofs.Steps.Drawn.{drawn-known}
 use Rattle.deduction.proofs.Steps.Held.{held-newest, held-older, derivable-kept}
@@ -32,13 +35,21 @@ use Rattle.start.specs.Start.{startEntries, startHeads, startTerms}
 use Rattle.start.proofs.Laws.Heads.{start-below}
 use Rattle.start.proofs.Public.{public-start}
 use Rattle.verdict.specs.Buffer.{gainedIn, usedIn, remainderIn, stepsIn}
-use Rattle.verdict.specs.Demands.{verdictCode, goalTerm, gainedHeads, Passes, Meets}
+use Rattle.verdict.specs.Refused.{refusalOf}
+use Rattle.verdict.specs.Demands.{verdictCode, goalTerm, gainedHeads, Passes, Meets, Demanded}
+use Rattle.verdict.proofs.Laws.Answered.{refused-le}
 use Rattle.verdict.proofs.Laws.Demands.{start-is-heads}
 use Rattle.verdict.proofs.Unique.{steps-count}
 
 -- what passes the replay is derivable
 pub passes-derivable : (on : Setting) (s : List ℕ) (cut k : ℕ) (out : List ℕ) → Passes on s cut k out → Derivable on (startTerms s cut) (goalTerm s)
 passes-derivable on s cut k out (end, r, h) = replay-derivable (termAt (entryAt s)) (countOf s) r (goalTerm s) h
+
+-- a number over 12 is no refusal
+pub answer-judged : {on : Setting} {s : List ℕ} {cut budget : ℕ} {old out : List ℕ} {answer : ℕ} → Demanded on s cut budget old out answer
+    → 12 < answer → refusalOf s cut budget (length old) ≡ 0
+answer-judged {on} {s} {cut} {budget} {old} d h =
+    by-cases (ℕ-discrete (refusalOf s cut budget (length old)) 0) (λ p. p) (λ n. absurd (omega (arith, d .refused n .0, refused-le s cut budget (length old))))
 
 module _ {on : Setting} {s : List ℕ} {cut budget : ℕ} {old out : List ℕ} {answer : ℕ} (ok : refusal s ≡ 0) (m : Meets on s cut budget old out answer) where
   -- the number names the verdict
@@ -79,6 +90,24 @@ module _ {on : Setting} {s : List ℕ} {cut budget : ℕ} {old out : List ℕ} {
   pub out-underivable : 2000 ≤ answer → answer < 3000 → ¬ Derivable on (startTerms s cut) (goalTerm s)
   out-underivable l h = m .out-of-reach (is-out l h)
 
+  -- the gained set: every head in it is derivable, and at out of reach it has the head of every entry that is
+  module _ (within : cut ≤ traceLength s) where
+    heads-derivable : (j : ℕ) → List·Memᴰ j (gainedHeads s cut (m .count) out) → Derivable on (startTerms s cut) (termAt (entryAt s) j)
+    heads-derivable j c =
+        trace-derivable (entryAt s) (countOf s) (good s ok .downward) (startEntries s cut) (start-below s ok cut within) (termAt (entryAt s) j) .1
+        (sound-heads on (entryAt s) (countOf s) (good s ok .downward) (startHeads s cut) (stepsIn out (m .count)) (start-is-heads on s cut budget ok within) (course-made (m .course)) j c)
+
+    pub out-gained : 2000 ≤ answer → answer < 3000 → (i : ℕ) → i < countOf s
+        → (member (gainedIn out) (repAt (entryAt s) i) ≡ true) ↔ Derivable on (startTerms s cut) (termAt (entryAt s) i)
+    out-gained l h i low = (
+      λ g. derive-same (heads-derivable (repAt (entryAt s) i) (m .known (repAt (entryAt s) i) .0 g)) (rep-same (entryAt s) (countOf s) (good s ok .downward) i low),
+      λ d. m .known (repAt (entryAt s) i) .1
+          (stuck-has (entryAt s) (countOf s) (good s ok .downward) (gainedHeads s cut (m .count) out)
+          (course-heads (entryAt s) (countOf s) (good s ok .downward) (goalOf s) (start-is-heads on s cut budget ok within) (m .course)) on (course-stuck (m .course) (is-out l h) .1)
+          (startHeads s cut) (λ j c. Memᴰ·append-left _ c) i low
+          (trace-derivable (entryAt s) (countOf s) (good s ok .downward) (startEntries s cut) (start-below s ok cut within) (termAt (entryAt s) i) .0 d)),
+    )
+
   pub stopped-used-up : 3000 ≤ answer → (answer ≡ 3000 + budget) × ((r : Step) × FollowsIn on (termAt (entryAt s)) (countOf s) (gainedHeads s cut (m .count) out) r)
   stopped-used-up l =
       let (q, u, f) = course-stopped (m .course) (is-stopped l) in
@@ -99,9 +128,7 @@ module _ {on : Setting} {s : List ℕ} {cut budget : ℕ} {old out : List ℕ} {
     -- what is used was gained
     used-derivable : cut ≤ traceLength s → (j : ℕ) → member (usedIn out) j ≡ true → Derivable on (startTerms s cut) (termAt (entryAt s) j)
     used-derivable within j i =
-        trace-derivable (entryAt s) (countOf s) (good s ok .downward) (startEntries s cut) (start-below s ok cut within) (termAt (entryAt s) j) .1
-        (sound-heads on (entryAt s) (countOf s) (good s ok .downward) (startHeads s cut) (stepsIn out (m .count)) (start-is-heads on s cut budget ok within) (course-made (m .course)) j
-        (drawn-known (termAt (entryAt s)) (countOf s) (gainedHeads s cut (m .count) out) j (out-missing .0 .drawn j i)))
+        heads-derivable within j (drawn-known (termAt (entryAt s)) (countOf s) (gainedHeads s cut (m .count) out) j (out-missing .0 .drawn j i))
 
     pub missing-underivable : cut ≤ traceLength s → ¬ Derivable on (startTerms s cut) lacked
     missing-underivable within d =

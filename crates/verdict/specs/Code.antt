@@ -1,6 +1,6 @@
--- The number of an answer for callers in C, and the count in it. Where the count is at most 256 the number names the answer: `number-names`
--- (proofs/Laws/Code.antt).
-use Prim.Native.Nat.{ℕ, _+_}
+-- The number of an answer for callers in C, the count in it, and the numbers that say "out of reach". Where the count is at most 256 the number names the
+-- answer: `number-names` (proofs/Laws/Code.antt).
+use Prim.Native.Nat.{ℕ, _+_, _≤_, _<_}
 use Rattle.dag.specs.Code.{codeOf}
 use Rattle.verdict.specs.declared.Answer.{Answer}
 use Rattle.verdict.specs.declared.Answer.the-variants.{Refused, Derivable, Underivable, Exhausted}
@@ -16,3 +16,7 @@ madeIn (Refused r) = 0
 madeIn (Derivable n) = n
 madeIn (Underivable n) = n
 madeIn (Exhausted n) = n
+
+-- an answer that says "out of reach"
+abbrev pub IsOut : ℕ → Type 0
+IsOut answer = (2000 ≤ answer) × (answer < 3000)

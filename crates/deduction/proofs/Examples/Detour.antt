@@ -22,17 +22,17 @@ use Rattle.deduction.proofs.Exactness.Invariant.{Kept}
 abbrev pub sheet : ℕ → Entry
 sheet i = getD (Atom 1 ∷ Atom 2 ∷ []) i Zero
 
-sheet-down : Downward sheet 2
+pub sheet-down : Downward sheet 2
 unfolding parts
 sheet-down zero j h r = absurd (List·Memᴰ·not-nil r)
 sheet-down (suc zero) j h r = absurd (List·Memᴰ·not-nil r)
 sheet-down (suc (suc i)) j h r = absurd (omega arith)
 
-term-0 : termAt sheet 0 ≡ atom 1
+pub term-0 : termAt sheet 0 ≡ atom 1
 unfolding build
 term-0 = termAt-build sheet 2 sheet-down 0 (omega arith)
 
-term-1 : termAt sheet 1 ≡ atom 2
+pub term-1 : termAt sheet 1 ≡ atom 2
 unfolding build
 term-1 = termAt-build sheet 2 sheet-down 1 (omega arith)
 

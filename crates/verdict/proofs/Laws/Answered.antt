@@ -18,6 +18,7 @@ use Rattle.dag.specs.Sheet.{countOf, traceLength}
 use Rattle.dag.specs.Record.{entryAt}
 use Rattle.dag.specs.Refusal.{when, orElse, refusal}
 use Rattle.dag.proofs.Laws.Refusal.{when-yes, when-no, when-zero, orElse-none, orElse-some, orElse-zero-left, orElse-zero-right}
+use Rattle.dag.proofs.Laws.Highest.{when-le, orElse-le, refusal-le}
 use Rattle.derive.specs.Bytes.{stepsBytes}
 use Rattle.derive.specs.Inner.Ran.{verdictOf}
 use Rattle.derive.specs.declared.run.Ended.{Ended}
@@ -80,6 +81,11 @@ module _ (s : List ℕ) (cut budget space : ℕ) where
   pub accepted : refusal s ≡ 0 → cut ≤ traceLength s → budget ≤ 256 → front + 40 * budget ≤ space → 0 ≡ refusalOf s cut budget space
   unfolding row10
   accepted p h l r = when-no 10 (le-ltb space (front + 40 * budget) r) ∙ past9 p h l
+
+  -- no refusal has a number over 12
+  pub refused-le : refusalOf s cut budget space ≤ 12
+  unfolding refusalOf
+  refused-le = orElse-le _ _ (refusal-le s) (orElse-le _ _ (when-le _ (omega arith)) (orElse-le _ _ (when-le _ (omega arith)) (when-le _ (omega arith))))
 
   -- what a call that isn't refused was given
   module _ (ok : refusalOf s cut budget space ≡ 0) where

@@ -1,0 +1,2 @@
+-- Which atoms an intruder may start with of his own, and his start with them.
+pub mod Own
