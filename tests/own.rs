@@ -154,9 +154,9 @@ impl Tally {
 }
 
 // What isn't an own atom, for a sheet and a cut: entries behind the sheet's own, how many of the last of them are heard, and how much later the cut is.
-type Let = fn(&mut Random, &Sheet, &Parts) -> Option<(Vec<Entry>, usize, usize)>;
+type LetIn = fn(&mut Random, &Sheet, &Parts) -> Option<(Vec<Entry>, usize, usize)>;
 
-const HELPS: [(&str, Let); 6] = [
+const HELPS: [(&str, LetIn); 6] = [
     ("an atom of the sheet", |r, read, _| Some((vec![Entry::Atom(any(r, &occurring(&read.terms).0)?)], 1, 0))),
     ("atom 256 for a public one", |_, read, _| occurring(&read.terms).0.contains(&256).then(|| (vec![Entry::Atom(256)], 1, 0))),
     ("an atom that occurs from the goal's entry on", |r, read, _| {
@@ -185,11 +185,14 @@ fn helps(r: &mut Random) -> [u64; HELPS.len()] {
         let parts = if i % 2 == 0 { random_entries(r, 8) } else { lock_entries(r) };
         let plain = sheet(&parts.0, &parts.1, parts.2);
         let cut = r.below(parts.1.len() as u64 + 1) as usize;
+        if judged(&plain, cut, 255).0 != 2 {
+            continue;
+        }
         let read = read(&plain);
         for (count, (_, what)) in turned.iter_mut().zip(HELPS) {
             let Some((more, heard, later)) = what(r, &read, &parts) else { continue };
             let Some(with) = beside(&parts, &more, heard).filter(|_| cut + later <= parts.1.len()) else { continue };
-            *count += u64::from(judged(&plain, cut, 255).0 == 2 && judged(&with, cut + heard + later, 255).0 == 1);
+            *count += u64::from(judged(&with, cut + heard + later, 255).0 == 1);
         }
     }
     turned
@@ -207,7 +210,7 @@ fn main() {
         let parts = kind(20 + 10 * (seed as usize % 24), seed);
         t.stays(&mut r, &parts, 20);
     }
-    for i in 0..900 {
+    for i in 0..450 {
         let parts = if i % 2 == 0 { random_entries(&mut r, 5) } else { lock_entries(&mut r) };
         t.off_the_sheet(&mut r, &parts);
     }

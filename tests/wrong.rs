@@ -1,6 +1,6 @@
 // Libraries that are wrong on purpose, by the plain Rust verdict with a fault put in: the brute-force test has to fail on each of them, the test of the
-// refusals on those with a fault in the table, the test of the settings on those with a fault in the setting (wrong_settings.rs), and each has to pass on the
-// one without a fault. The environment variable FAULT chooses the fault.
+// refusals on those with a fault in the table, the test of the settings on those with a fault in the setting (wrong_settings.rs), the test of own atoms on those
+// that take an own atom for something on the sheet, and each has to pass on the one without a fault. The environment variable FAULT chooses the fault.
 
 #[allow(dead_code)]
 mod sheets;
@@ -385,6 +385,7 @@ impl Choices for Wrong {
         let key = t.keys[lock] % 256;
         let kind = t.keys[key as usize] >> 32;
         let half = |kind: u64| (0..256).find(|&j| t.keys[usize::from(j)] >> 32 == kind).unwrap_or(256);
+        let last_atom = || (0..256).rev().find(|&j| t.keys[usize::from(j)] >> 32 == 1).unwrap_or(256);
         match fault() {
             "the same half opens" => key as u16,
             "the opposite half of another number opens" => half(11 - kind),
@@ -392,6 +393,7 @@ impl Choices for Wrong {
             "only the public half opens" if kind == 6 => 256,
             "an opposite half without an entry is free" if opposite == 256 => lock as u16,
             "a lock opens by itself" => lock as u16,
+            "the last atom opens a lock" => last_atom(),
             "an opposite half above the lock not found" if usize::from(opposite) > lock => 256,
             "an opposite half below the lock not found" if usize::from(opposite) < lock => 256,
             _ => opposite,
@@ -411,11 +413,14 @@ impl Choices for Wrong {
 
     fn made(&self, t: &Tables, s: &State, i: usize, parts: [u8; 2]) -> bool {
         let is_lock = t.keys[i] >> 32 == 7;
+        let any_atom = || (0..=255).any(|j| has(&s.known, j) && t.keys[usize::from(j)] >> 32 == 1);
         match fault() {
             "locked without the half" if is_lock => has(&s.known, parts[0]),
             "locked without the message" if is_lock => has(&s.known, parts[1]),
             "locked with the opposite half" if is_lock => has(&s.known, parts[0]) && t.openers[i] < 256 && has(&s.known, t.openers[i] as u8),
             "never locked" if is_lock => false,
+            "any known atom for the first part" => any_atom() && has(&s.known, parts[1]),
+            "any known atom for the second part" => any_atom() && has(&s.known, parts[0]),
             _ => Right.made(t, s, i, parts),
         }
     }
