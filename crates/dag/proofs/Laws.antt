@@ -1,7 +1,6 @@
 pub mod Sheet
 pub mod Record
 pub mod Refusal
-pub mod Highest
 pub mod Pairs
 pub mod Parts
 pub mod Table

@@ -3,7 +3,7 @@
 -- when no entry's term is the same; `fresh-same`, from any start of entries the same entries are derivable with fresh atoms as without, in every setting;
 -- `fresh-underivable`, so an entry that isn't derivable stays so; `beside-same`, the same where some of the atoms stand at the start already. Assumes nothing.
 use mathlib.Core.Path.{_≡_, refl, sym, ap, _∙_, subst}
-use mathlib.Core.Logic.{_↔_, _⊎_, inl, inr, ⊎-elim, by-cases}
+use mathlib.Core.Logic.{_↔_, _⊎_, inl, inr, by-cases}
 use mathlib.Core.List.{List, [], _∷_, map, List·Memᴰ, List·Memᴰ·head, List·Memᴰ·tail, List·Memᴰ·append-cases, Memᴰ·append-left, Memᴰ·of-map}
 use Prim.Native.Nat.{ℕ, zero, suc, _≤_, _<_}
 use native.Mathlib.Omega.{arith}
@@ -13,11 +13,11 @@ use Rattle.deduction.specs.Setting.{Setting}
 use Rattle.deduction.specs.Derivation.{Derivable}
 use Rattle.deduction.specs.Entry.{Entry, Zero, Atom, Pair, Enc, Sum, Half, Aenc, build, termAt, parts, Downward}
 use Rattle.deduction.specs.Fresh.{Occurs, Fresh, startWith}
-use Rattle.deduction.proofs.Coding.{bit-own, place, place-same, code, code-atom, same-code, side-range}
-use Rattle.deduction.proofs.Terms.{termAt-build}
+use Rattle.deduction.proofs.Coding.{bit-own, place, code, code-atom, same-code}
+use Rattle.deduction.proofs.Terms.{termAt-build, atom-term}
 use Rattle.deduction.proofs.Exactness.{exactness-from, start-made, reach-closed, reach-derivable}
 use Rattle.deduction.proofs.Exactness.Within.{Reach}
-use Rattle.deduction.proofs.Exactness.Places.{PlaceOf, OnSheet, onSheet-decidable, entry-places}
+use Rattle.deduction.proofs.Exactness.Places.{PlaceOf, OnSheet, onSheet-decidable, entry-places, atom-at}
 use Rattle.deduction.proofs.Exactness.Synthesis.{Synth}
 use Rattle.deduction.proofs.Steps.Held.{derivable-kept}
 
@@ -45,16 +45,6 @@ occurs-part t a (Half s b) h = absurd h
 occurs-part t a (Aenc m k) (inl h) = inr (m, List·Memᴰ·head refl, h)
 occurs-part t a (Aenc m k) (inr h) = inr (k, List·Memᴰ·tail (List·Memᴰ·head refl), h)
 
--- an entry with the place of an atom is that atom
-atom-at : (t : ℕ → Term) (a : ℕ) (d : Entry) → PlaceOf t d (place 0 a 0) → d ≡ Atom a
-atom-at t a Zero q = absurd q
-atom-at t a (Atom b) q = ap Atom (place-same _ _ _ _ _ _ q .1)
-atom-at t a (Pair l r) q = absurd (omega (arith, place-same _ _ _ _ _ _ q .0))
-atom-at t a (Enc m k) q = absurd (omega (arith, place-same _ _ _ _ _ _ q .0))
-atom-at t a (Sum items) q = absurd q
-atom-at t a (Half s b) q = absurd (omega (arith, place-same _ _ _ _ _ _ q .0, side-range s))
-atom-at t a (Aenc m k) q = absurd (omega (arith, place-same _ _ _ _ _ _ q .0))
-
 module _ (e : ℕ → Entry) (n : ℕ) (down : Downward e n) where
   occurs-below : (b i : ℕ) → i < b → i < n → (a : ℕ) → Occurs a (termAt e i) → (j : ℕ) × (j ≤ i) × (e j ≡ Atom a)
   occurs-below zero i l h a o = absurd (omega arith)
@@ -70,14 +60,10 @@ module _ (e : ℕ → Entry) (n : ℕ) (down : Downward e n) where
   pub occurs-entry : (i : ℕ) → i < n → (a : ℕ) → Occurs a (termAt e i) → (j : ℕ) × (j ≤ i) × (e j ≡ Atom a)
   occurs-entry i h a o = occurs-below (suc i) i (omega arith) h a o
 
-  atom-term : (i a : ℕ) → i < n → e i ≡ Atom a → termAt e i ≡ atom a
-  unfolding build
-  atom-term i a h q = termAt-build e n down i h ∙ ap (build (termAt e)) q
-
   -- fresh exactly when no record is the atom
   pub fresh-record : (a : ℕ) → Fresh e n a ↔ ((i : ℕ) → i < n → ¬ (e i ≡ Atom a))
   fresh-record a = (
-    λ f i h q. f i h (subst (Occurs a) (sym (atom-term i a h q)) refl),
+    λ f i h q. f i h (subst (Occurs a) (sym (atom-term e i a q)) refl),
     λ f i h o. let (j, l, q) = occurs-entry i h a o in f j (omega (arith, l)) q,
   )
 
@@ -95,19 +81,22 @@ module _ (e : ℕ → Entry) (n : ℕ) (down : Downward e n) where
   pub fresh-term : (a : ℕ) → Fresh e n a ↔ ((i : ℕ) → i < n → ¬ (termAt e i ≈ atom a))
   fresh-term a = (
     λ f i h q. fresh-off a f (entry-places (termAt e) e n down (termAt-build e n down) i h (place 0 a 0) (ap (λ (x : ℕ). member x (place 0 a 0)) (same-code q ∙ code-atom a) ∙ bit-own (place 0 a 0))),
-    λ f. fresh-record a .1 (λ i h q. f i h (subst (λ (u : Term). u ≈ atom a) (sym (atom-term i a h q)) same)),
+    λ f. fresh-record a .1 (λ i h q. f i h (subst (λ (u : Term). u ≈ atom a) (sym (atom-term e i a q)) same)),
   )
 
-  -- what the start and atoms beside it hold can be put together from a set of entries that has the start
-  beside-made : (on : Setting) (G : ℕ → Type 0) (start : List ℕ) → ((i : ℕ) → List·Memᴰ i start → (i < n) × G i)
-      → (atoms : List ℕ) → ((a : ℕ) → List·Memᴰ a atoms → Fresh e n a ⊎ List·Memᴰ (atom a) (map (termAt e) start))
-      → (u : Term) → List·Memᴰ u (startWith e start atoms) → Synth on (termAt e) e n G (code u)
-  beside-made on G start from atoms beside u m = ⊎-elim (start-made on e n G start from u) (λ r. own (Memᴰ·of-map atom atoms r)) (List·Memᴰ·append-cases (map (termAt e) start) m)
-    where
-      own : (a : ℕ) × List·Memᴰ a atoms × (atom a ≡ u) → Synth on (termAt e) e n G (code u)
-      own (a, r, q) =
-          subst (λ (x : Term). Synth on (termAt e) e n G (code x)) q
-          (⊎-elim (λ f. subst (Synth on (termAt e) e n G) (sym (code-atom a)) (Synth.own a (fresh-off a f))) (start-made on e n G start from (atom a)) (beside a r))
+  -- what stands at the start, or beside it as a fresh atom, can be put together from any set of entries that has the start
+  module _ (on : Setting) (G : ℕ → Type 0) (start : List ℕ) (from : (i : ℕ) → List·Memᴰ i start → (i < n) × G i) where
+    own-made : (a : ℕ) → Fresh e n a ⊎ List·Memᴰ (atom a) (map (termAt e) start) → Synth on (termAt e) e n G (code (atom a))
+    own-made a (inl f) = subst (Synth on (termAt e) e n G) (sym (code-atom a)) (Synth.own a (fresh-off a f))
+    own-made a (inr m) = start-made on e n G start from (atom a) m
+
+    beside-made : (atoms : List ℕ) → ((a : ℕ) → List·Memᴰ a atoms → Fresh e n a ⊎ List·Memᴰ (atom a) (map (termAt e) start))
+        → (u : Term) → List·Memᴰ u (startWith e start atoms) → Synth on (termAt e) e n G (code u)
+    beside-made atoms beside u m =
+        elim (List·Memᴰ·append-cases (map (termAt e) start) m) [
+          | inl r ↦ start-made on e n G start from u r
+          | inr r ↦ let (a, i, q) = Memᴰ·of-map _ atoms r in subst (λ (x : Term). Synth on (termAt e) e n G (code x)) q (own-made a (beside a i))
+        ]
 
   module _ (on : Setting) (start : List ℕ) (low : (i : ℕ) → List·Memᴰ i start → i < n) (atoms : List ℕ) where
     -- "public numbers included": atoms beside the start, each fresh or at the start already

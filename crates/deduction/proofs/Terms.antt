@@ -1,6 +1,6 @@
 -- The terms of a sheet's entries.
 -- Shown: the list `terms e n` has n items, and item j is `termAt e j`; where the entries refer downwards, the term of an entry is built
--- from the terms of the entries that it names. Assumes nothing.
+-- from the terms of the entries that it names; the term of an atom's entry is the atom. Assumes nothing.
 use mathlib.Core.Path.{_≡_, refl, ap, ap₂, _∙_}
 use mathlib.Core.Logic.{by-cases}
 use mathlib.Core.List.{List, [], _∷_, map, List·Memᴰ, List·Memᴰ·head, List·Memᴰ·tail}
@@ -9,7 +9,7 @@ use native.Mathlib.Decide.{decLt}
 use native.Mathlib.Omega.{arith}
 use lib.ListN.{length, getD, length-append, List·getD-append}
 use lib.Seq.{getD-at}
-use Rattle.deduction.specs.Term.{Term, 𝟎, pair, enc, aenc, sumOf}
+use Rattle.deduction.specs.Term.{Term, 𝟎, atom, pair, enc, aenc, sumOf}
 use Rattle.deduction.specs.Entry.{Entry, Zero, Atom, Pair, Enc, Sum, Half, Aenc, build, terms, termAt, parts, Downward}
 
 pub terms-length : (e : ℕ → Entry) (n : ℕ) → length (terms e n) ≡ n
@@ -42,3 +42,8 @@ build-same f g (Aenc m k) h = ap₂ aenc (h m (List·Memᴰ·head refl)) (h k (L
 pub termAt-build : (e : ℕ → Entry) (n : ℕ) → Downward e n → (i : ℕ) → i < n → termAt e i ≡ build (termAt e) (e i)
 unfolding termAt
 termAt-build e n down i h = build-same (λ j. getD (terms e i) j 𝟎) (termAt e) (e i) (λ j m. terms-at e i j (down i j h m))
+
+-- the term of an atom's entry
+pub atom-term : (e : ℕ → Entry) (i a : ℕ) → e i ≡ Atom a → termAt e i ≡ atom a
+unfolding termAt build
+atom-term e i a q = ap (build (λ j. getD (terms e i) j 𝟎)) q

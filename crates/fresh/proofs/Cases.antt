@@ -11,7 +11,7 @@ use Rattle.deduction.specs.Setting.{every}
 use Rattle.deduction.specs.Derivation.{Derivable, begin, decrypt}
 use Rattle.deduction.specs.Entry.{Entry, Atom, Sum, Enc, build, termAt, Downward}
 use Rattle.deduction.specs.Standard.{shape}
-use Rattle.deduction.proofs.Terms.{termAt-build}
+use Rattle.deduction.proofs.Terms.{termAt-build, atom-term}
 use Rattle.deduction.proofs.Fresh.{fresh-record}
 use Rattle.dag.specs.Sheet.{countOf, numberAt, listed}
 use Rattle.dag.specs.Record.{entryAt, atomOf, decodeAs}
@@ -81,7 +81,7 @@ entry-helps =
     heard = Memᴰ·map (termAt (entryAt sheetA)) (Memᴰ·append-right (publicHeads (entryAt sheetA) (countOf sheetA)) (List·Memᴰ·tail (List·Memᴰ·head refl)))
 
     key : termAt (entryAt sheetA) 0 ≡ atom 1007
-    key = termAt-build (entryAt sheetA) (countOf sheetA) down 0 (omega (arith, five)) ∙ ap (build (termAt (entryAt sheetA))) (entries .0)
+    key = atom-term (entryAt sheetA) 0 1007 (entries .0)
 
     opened : termAt (entryAt sheetA) 4 ≈ enc (goalTerm sheetA) (atom 1007)
     opened =

@@ -13,9 +13,10 @@ use borrow.Author.Tests.{eqb-true, eq-eqb, lt-ltb}
 use lib.Dec.{eqb, ltb}
 use lib.ListN.{length, getD, length-append, List·getD-append}
 use lib.Seq.{getD-append-seam}
-use Rattle.deduction.specs.Term.{Side, Term, 𝟎, atom}
-use Rattle.deduction.specs.Entry.{Entry, Zero, Atom, Pair, Enc, Sum, Half, Aenc, Downward, build, terms, termAt}
+use Rattle.deduction.specs.Term.{Side, Term, atom}
+use Rattle.deduction.specs.Entry.{Entry, Zero, Atom, Pair, Enc, Sum, Half, Aenc, Downward, termAt}
 use Rattle.deduction.specs.Standard.{Shape, shape, setAt, repAt}
+use Rattle.deduction.proofs.Terms.{atom-term}
 use Rattle.deduction.proofs.Standard.{rep-le, rep-rep}
 use Rattle.deduction.proofs.Standard.First.{both-true, shapeAt, half-range, first-shape}
 use Rattle.deduction.proofs.Standard.Members.{rep-first}
@@ -151,13 +152,9 @@ module _ (s : List ℕ) (ok : refusal s ≡ 0) where
 
   -- and the atom is among the terms from which reach is measured
   pub public-gained : (cut i a : ℕ) → i < countOf s → entryAt s i ≡ Atom a → a < 256 → List·Memᴰ (atom a) (startTerms s cut)
-  unfolding termAt build
   public-gained cut i a h p l =
-      subst (λ (t : Term). List·Memᴰ t (startTerms s cut)) (term (repAt (entryAt s) i) (atom-head (entryAt s) (countOf s) (good s ok .downward) i a h p))
+      subst (λ (t : Term). List·Memᴰ t (startTerms s cut)) (atom-term (entryAt s) (repAt (entryAt s) i) a (atom-head (entryAt s) (countOf s) (good s ok .downward) i a h p))
       (Memᴰ·map (termAt (entryAt s)) (Memᴰ·append-left (traceOf s cut) (public-every (entryAt s) (countOf s) (good s ok .downward) i a h p l)))
-    where
-      term : (k : ℕ) → entryAt s k ≡ Atom a → termAt (entryAt s) k ≡ atom a
-      term k q = ap (build (λ j. getD (terms (entryAt s) k) j 𝟎)) q
 
 -- a sheet without public atoms starts as it did before document 02
 pub start-without : (s : List ℕ) (cut : ℕ) → ((i : ℕ) → i < countOf s → isPublic (entryAt s i) ≡ false) → startEntries s cut ≡ traceOf s cut

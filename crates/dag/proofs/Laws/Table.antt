@@ -9,12 +9,12 @@ use Rattle.dag.specs.Refusal.{when, orElse, first, noSheet, badCount, sh
 
 -- a property of 0 and of each row's number is one of the first that holds
 module _ (P : ℕ → Type 0) (none : P 0) where
-  when-has : (b : Bool) (k : ℕ) → P k → P (when b k)
+  pub when-has : (b : Bool) (k : ℕ) → P k → P (when b k)
   unfolding when
   when-has true k h = h
   when-has false k h = none
 
-  orElse-has : (a b : ℕ) → P a → P b → P (orElse a b)
+  pub orElse-has : (a b : ℕ) → P a → P b → P (orElse a b)
   unfolding orElse
   orElse-has zero b p q = q
   orElse-has (suc a) b p q = p

@@ -121,6 +121,16 @@ pub form-term : (t : ℕ → Term) (e : ℕ → Entry) (n : ℕ) (built : (i : �
     → e i ≡ formEntry f l r → t i ≡ form f (t l) (t r)
 form-term t e n built f i l r h q = built i h ∙ ap (build t) q ∙ form-build t f l r
 
+-- an entry with the place of an atom is that atom
+pub atom-at : (t : ℕ → Term) (a : ℕ) (d : Entry) → PlaceOf t d (place 0 a 0) → d ≡ Atom a
+atom-at t a Zero q = absurd q
+atom-at t a (Atom b) q = ap Atom (place-same _ _ _ _ _ _ q .1)
+atom-at t a (Pair l r) q = absurd (omega (arith, place-same _ _ _ _ _ _ q .0))
+atom-at t a (Enc m k) q = absurd (omega (arith, place-same _ _ _ _ _ _ q .0))
+atom-at t a (Sum items) q = absurd q
+atom-at t a (Half s b) q = absurd (omega (arith, place-same _ _ _ _ _ _ q .0, side-range s))
+atom-at t a (Aenc m k) q = absurd (omega (arith, place-same _ _ _ _ _ _ q .0))
+
 -- an entry with the place of a half is that half
 pub half-at : (t : ℕ → Term) (s : Side) (a : ℕ) (d : Entry) → PlaceOf t d (halfPlace s a) → d ≡ Half s a
 half-at t s a Zero q = absurd q

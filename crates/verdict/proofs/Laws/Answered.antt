@@ -1,7 +1,7 @@
 -- The rows 8 to 10 after 1 to 7, and the answer of a call that is refused or not. Assumes nothing.
 use mathlib.Core.Path.{_≡_, sym, ap, ap₂, _∙_, subst}
 use mathlib.Core.Bool.{Bool, cond}
-use mathlib.Core.Logic.{by-cases}
+use mathlib.Core.Logic.{⊎-elim, by-cases}
 use mathlib.Core.List.{List, _++_, append-assoc}
 use Prim.Native.Nat.{ℕ, _+_, _*_, _≤_, _<_}
 use native.Mathlib.Nat.{le-trans, le-of-eq}
@@ -18,7 +18,7 @@ use Rattle.dag.specs.Sheet.{countOf, traceLength}
 use Rattle.dag.specs.Record.{entryAt}
 use Rattle.dag.specs.Refusal.{when, orElse, refusal}
 use Rattle.dag.proofs.Laws.Refusal.{when-yes, when-no, when-zero, orElse-none, orElse-some, orElse-zero-left, orElse-zero-right}
-use Rattle.dag.proofs.Laws.Highest.{when-le, orElse-le, refusal-le}
+use Rattle.dag.proofs.Laws.Table.{when-has, orElse-has, refusal-named}
 use Rattle.derive.specs.Bytes.{stepsBytes}
 use Rattle.derive.specs.Inner.Ran.{verdictOf}
 use Rattle.derive.specs.declared.run.Ended.{Ended}
@@ -85,7 +85,15 @@ module _ (s : List ℕ) (cut budget space : ℕ) where
   -- no refusal has a number over 12
   pub refused-le : refusalOf s cut budget space ≤ 12
   unfolding refusalOf
-  refused-le = orElse-le _ _ (refusal-le s) (orElse-le _ _ (when-le _ (omega arith)) (orElse-le _ _ (when-le _ (omega arith)) (when-le _ (omega arith))))
+  refused-le =
+      either (refusal s) _ (⊎-elim (λ h. omega (arith, h)) (λ h. omega (arith, h)) (refusal-named s))
+      (either _ _ (row _ 8 (omega arith)) (either _ _ (row _ 9 (omega arith)) (row _ 10 (omega arith))))
+    where
+      row : (b : Bool) (k : ℕ) → k ≤ 12 → when b k ≤ 12
+      row = when-has (λ n. n ≤ 12) (omega arith)
+
+      either : (a b : ℕ) → a ≤ 12 → b ≤ 12 → orElse a b ≤ 12
+      either = orElse-has (λ n. n ≤ 12) (omega arith)
 
   -- what a call that isn't refused was given
   module _ (ok : refusalOf s cut budget space ≡ 0) where
