@@ -289,6 +289,9 @@ extern "C" {
  * remainder are as said above. With ZUWENDRYK_EVERY_RULE it gives the answer and the bytes of zuwendryk_verdict. With a budget of 256, turning a switch
  * on never turns reached into out of reach, and where the goal stays out of reach no gained term is lost.
  *
+ * Making up values is no help: where either verdict is out of reach, it is proved that the goal stays so for a stranger who also starts with any finite
+ * number of atoms that occur in no entry, and with all atoms 0 to 255. This is about atoms. A half of a key pair can open a lock, on the sheet or not.
+ *
  * Assumed are the checker, the compiler's back end, and that keys are perfect: a seal shows nothing without its key, nor a lock without the opposite
  * half of its key. */
 

@@ -75,10 +75,10 @@ stays-out = full-out sheetA 2 256 (front + 40 * 256) out-at-2 (5 ∷ 5000 ∷ []
 pub entry-helps : Derivable every (ownStart sheetA 2 (1007 ∷ [])) (goalTerm sheetA)
 unfolding numberAt listed build
 entry-helps =
-    (_, decrypt refl begin (termAt (entryAt sheetA) 4, Memᴰ·append-left _ heard, opened) (atom 1007, Memᴰ·append-right (startTerms sheetA 2) (List·Memᴰ·head refl), same), (goalTerm sheetA, List·Memᴰ·head refl, same))
+    (_, decrypt refl begin (termAt (entryAt sheetA) 4, Memᴰ·append-left _ at-start, opened) (atom 1007, Memᴰ·append-right (startTerms sheetA 2) (List·Memᴰ·head refl), same), (goalTerm sheetA, List·Memᴰ·head refl, same))
   where
-    heard : List·Memᴰ (termAt (entryAt sheetA) 4) (startTerms sheetA 2)
-    heard = Memᴰ·map (termAt (entryAt sheetA)) (Memᴰ·append-right (publicHeads (entryAt sheetA) (countOf sheetA)) (List·Memᴰ·tail (List·Memᴰ·head refl)))
+    at-start : List·Memᴰ (termAt (entryAt sheetA) 4) (startTerms sheetA 2)
+    at-start = Memᴰ·map (termAt (entryAt sheetA)) (Memᴰ·append-right (publicHeads (entryAt sheetA) (countOf sheetA)) (List·Memᴰ·tail (List·Memᴰ·head refl)))
 
     key : termAt (entryAt sheetA) 0 ≡ atom 1007
     key = atom-term (entryAt sheetA) 0 1007 (entries .0)
