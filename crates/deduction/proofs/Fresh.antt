@@ -1,6 +1,6 @@
 -- Atoms of the intruder's own making (document 02, E14: "inventing doesn't help a stranger").
 -- Shown: `occurs-entry`, an atom that occurs in an entry is itself an entry; `fresh-record`, `fresh-term`, so an atom is fresh exactly when no entry is it, and exactly
--- when no entry's term is the same; `fresh-same`, from any start of entries the same entries are derivable with fresh atoms as without, in every setting;
+-- when no entry's term is the same; `beside-more`, more at the start loses nothing; `fresh-same`, from any start of entries the same entries are derivable with fresh atoms as without, in every setting;
 -- `fresh-underivable`, so an entry that isn't derivable stays so; `beside-same`, the same where some of the atoms stand at the start already. Assumes nothing.
 use mathlib.Core.Path.{_≡_, refl, sym, ap, _∙_, subst}
 use mathlib.Core.Logic.{_↔_, _⊎_, inl, inr, by-cases}
@@ -84,6 +84,10 @@ module _ (e : ℕ → Entry) (n : ℕ) (down : Downward e n) where
     λ f. fresh-record a .1 (λ i h q. f i h (subst (λ (u : Term). u ≈ atom a) (sym (atom-term e i a q)) same)),
   )
 
+  -- whatever stands beside the start, what is derivable without is derivable with it
+  pub beside-more : (on : Setting) (start atoms : List ℕ) (u : Term) → Derivable on (map (termAt e) start) u → Derivable on (startWith e start atoms) u
+  beside-more on start atoms = derivable-kept (λ u (v, m, q). (v, Memᴰ·append-left (map atom atoms) m, q))
+
   -- what stands at the start, or beside it as a fresh atom, can be put together from any set of entries that has the start
   module _ (on : Setting) (G : ℕ → Type 0) (start : List ℕ) (from : (i : ℕ) → List·Memᴰ i start → (i < n) × G i) where
     own-made : (a : ℕ) → Fresh e n a ⊎ List·Memᴰ (atom a) (map (termAt e) start) → Synth on (termAt e) e n G (code (atom a))
@@ -107,7 +111,7 @@ module _ (e : ℕ → Entry) (n : ℕ) (down : Downward e n) where
           reach-derivable on (termAt e) n start i
           (exactness-from on e n down (Reach on (termAt e) n start) (reach-closed on (termAt e) n start) (startWith e start atoms)
           (beside-made on (Reach on (termAt e) n start) start (λ j m. (low j m, Reach.begin m)) atoms beside) g d i h k),
-      derivable-kept (λ u (v, m, q). (v, Memᴰ·append-left (map atom atoms) m, q)) (termAt e i),
+      beside-more on start atoms (termAt e i),
     )
 
     module _ (fresh : (a : ℕ) → List·Memᴰ a atoms → Fresh e n a) where
