@@ -86,7 +86,7 @@ module _ (e : ℕ → Entry) (n : ℕ) (down : Downward e n) where
 
   -- whatever stands beside the start, what is derivable without is derivable with it
   pub beside-more : (on : Setting) (start atoms : List ℕ) (u : Term) → Derivable on (map (termAt e) start) u → Derivable on (startWith e start atoms) u
-  beside-more on start atoms = derivable-kept (λ u (v, m, q). (v, Memᴰ·append-left (map atom atoms) m, q))
+  beside-more on start atoms = derivable-kept (λ u (v, m, q). (v, Memᴰ·append-left _ m, q))
 
   -- what stands at the start, or beside it as a fresh atom, can be put together from any set of entries that has the start
   module _ (on : Setting) (G : ℕ → Type 0) (start : List ℕ) (from : (i : ℕ) → List·Memᴰ i start → (i < n) × G i) where
