@@ -5,6 +5,8 @@
 #[allow(dead_code)] // each test uses a part
 mod sheets;
 #[allow(dead_code)]
+mod calls;
+#[allow(dead_code)]
 mod cards;
 mod failures;
 #[allow(dead_code)]
@@ -16,19 +18,11 @@ mod plain;
 #[allow(dead_code)]
 mod reading;
 mod records;
+use calls::verdict;
 use failures::Failures;
 use larger::Larger;
 use reading::{add, all_sums, expected, highest, members, missing_part, read, replay, set_bytes, standard, work, Answer, Set, Term, EVERY_RULE};
 use sheets::{damage, random_entries, sheet, Entry, Random, ATOMS, FRONT};
-
-extern "C" {
-    fn zuwendryk_verdict(sheet: *const u8, sheet_len: usize, cut: u32, budget: u32, buffer: *mut u8, buffer_len: usize) -> u32;
-}
-
-fn verdict(s: &[u8], cut: u32, budget: u32, buffer: &mut [u8]) -> u32 {
-    // Both areas are slices, so neither pointer is null and they don't overlap.
-    unsafe { zuwendryk_verdict(s.as_ptr(), s.len(), cut, budget, buffer.as_mut_ptr(), buffer.len()) }
-}
 
 // The length of a buffer for 256 rungs.
 const ROOM: usize = FRONT + 40 * 256;

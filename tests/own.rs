@@ -6,6 +6,7 @@
 
 #[allow(dead_code)] // each test uses a part
 mod sheets;
+mod calls;
 mod failures;
 #[allow(dead_code)]
 mod kinds;
@@ -13,25 +14,19 @@ mod kinds;
 mod off;
 #[allow(dead_code)]
 mod reading;
+use calls::{limited, verdict};
 use failures::Failures;
 use kinds::Parts;
 use reading::{members, one, read, Half, Piece, Set, Setting, Sheet, Term};
 use sheets::{lock_entries, random_entries, sheet, Entry, Random, FRONT};
 use std::collections::BTreeSet;
 
-extern "C" {
-    fn zuwendryk_verdict(sheet: *const u8, sheet_len: usize, cut: u32, budget: u32, buffer: *mut u8, buffer_len: usize) -> u32;
-    fn zuwendryk_limited_verdict(sheet: *const u8, sheet_len: usize, cut: u32, budget: u32, rules: u8, buffer: *mut u8, buffer_len: usize) -> u32;
-}
-
 // A call at budget 256, of the full verdict where every rule is on: reached (1) or out of reach (2), and the gained set.
 fn judged(s: &[u8], cut: usize, rules: u8) -> (u32, Set) {
     let mut buffer = vec![0; FRONT + 40 * 256];
-    let (at, length) = (buffer.as_mut_ptr(), buffer.len());
-    // Both areas are slices, so neither pointer is null and they don't overlap.
     let answer = match rules {
-        255 => unsafe { zuwendryk_verdict(s.as_ptr(), s.len(), cut as u32, 256, at, length) },
-        _ => unsafe { zuwendryk_limited_verdict(s.as_ptr(), s.len(), cut as u32, 256, rules, at, length) },
+        255 => verdict(s, cut as u32, 256, &mut buffer),
+        _ => limited(s, cut as u32, 256, rules, &mut buffer),
     };
     (answer / 1000, members(&buffer[..32]))
 }

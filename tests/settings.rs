@@ -5,6 +5,7 @@
 
 #[allow(dead_code)] // each test uses a part
 mod sheets;
+mod calls;
 #[allow(dead_code)]
 mod cards;
 mod failures;
@@ -21,23 +22,10 @@ mod settings_larger;
 mod settings_refused;
 mod settings_small;
 mod settings_stated;
+use calls::{limited, verdict};
 use failures::Failures;
 use reading::{judged, members, read, refused, replay, uses_only, Setting, Sheet};
 use sheets::{refusal, sheet, Entry, Random, FRONT};
-
-extern "C" {
-    fn zuwendryk_verdict(sheet: *const u8, sheet_len: usize, cut: u32, budget: u32, buffer: *mut u8, buffer_len: usize) -> u32;
-    fn zuwendryk_limited_verdict(sheet: *const u8, sheet_len: usize, cut: u32, budget: u32, rules: u8, buffer: *mut u8, buffer_len: usize) -> u32;
-}
-
-// In each call both areas are slices, so neither pointer is null and they don't overlap.
-fn verdict(s: &[u8], cut: u32, budget: u32, buffer: &mut [u8]) -> u32 {
-    unsafe { zuwendryk_verdict(s.as_ptr(), s.len(), cut, budget, buffer.as_mut_ptr(), buffer.len()) }
-}
-
-fn limited(s: &[u8], cut: u32, budget: u32, rules: u8, buffer: &mut [u8]) -> u32 {
-    unsafe { zuwendryk_limited_verdict(s.as_ptr(), s.len(), cut, budget, rules, buffer.as_mut_ptr(), buffer.len()) }
-}
 
 // The length of a buffer for 256 rungs, and that of the guards on both sides of it.
 const ROOM: usize = FRONT + 40 * 256;
