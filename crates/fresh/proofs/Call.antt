@@ -2,7 +2,7 @@
 -- Shown, of every sheet, cut, budget and buffer, from `Demanded` alone, and for any finite list of own atoms: where the call answers out of reach, no derivation
 -- from its start and these atoms holds the goal's term (`own-out`); where it answers reached, one does (`own-reached`); with a budget of at least the number of entries
 -- the number says which (`own-exact`); and at out of reach the gained set has exactly the entries that are derivable with them (`own-gained`). `own-same`: of a
--- good sheet the same entries are derivable with them as without. `full-out`: the same as `own-out` of the full verdict's answer as an equation. Assumes nothing.
+-- good sheet the same entries are derivable with them as without. `full-out`: the same as `own-out` of the answer of a call with every rule on, the full one or the quick one, as an equation. Assumes nothing.
 use mathlib.Core.Path.{_≡_, refl, sym, ap}
 use mathlib.Core.Bool.{true}
 use mathlib.Core.Logic.{_↔_, _⊎_, inl, inr}
@@ -50,15 +50,15 @@ module _ (s : List ℕ) (ok : refusal s ≡ 0) where
   own-same cut within atoms own on =
       beside-same (entryAt s) (countOf s) (good s ok .downward) on (startEntries s cut) (start-below s ok cut within) atoms (λ a m. own-beside cut a (own a m))
 
-module _ {on : Setting} {s : List ℕ} {cut budget : ℕ} {old out : List ℕ} {answer : ℕ} (d : Demanded on s cut budget old out answer)
+module _ {on : Setting} {limit : ℕ} {s : List ℕ} {cut budget : ℕ} {old out : List ℕ} {answer : ℕ} (d : Demanded on limit s cut budget old out answer)
     (atoms : List ℕ) (own : (a : ℕ) → List·Memᴰ a atoms → OwnAtom s a) where
   -- of a call that isn't refused
-  module _ (judged : refusalOf s cut budget (length old) ≡ 0) where
+  module _ (judged : refusalOf limit s cut budget (length old) ≡ 0) where
     sheet : refusal s ≡ 0
-    sheet = ok-sheet s cut budget (length old) judged
+    sheet = ok-sheet limit s cut budget (length old) judged
 
     within : cut ≤ traceLength s
-    within = ok-cut s cut budget (length old) judged
+    within = ok-cut limit s cut budget (length old) judged
 
     goal-same : Derivable on (ownStart s cut atoms) (goalTerm s) ↔ Derivable on (startTerms s cut) (goalTerm s)
     goal-same = own-same s sheet cut within atoms own on (goalOf s) (good s sheet .goal)
@@ -83,18 +83,18 @@ module _ {on : Setting} {s : List ℕ} {cut budget : ℕ} {old out : List ℕ} {
       let f = own-same s (sheet j) cut (within j) atoms own on i low in
       (λ g. f .1 (e .0 g), λ x. e .1 (f .0 x))
 
--- the same of the full verdict, which has "every rule switched on", by the equation of its contract: whatever the sheet, the cut, the budget and the length of the buffer
-module _ (s : List ℕ) (cut budget space : ℕ) (out : IsOut (answerOf every s cut budget space)) where
+-- the same of the verdicts that have "every rule switched on", by the equation of their contracts: whatever the limit, the sheet, the cut, the budget and the length of the buffer
+module _ (limit : ℕ) (s : List ℕ) (cut budget space : ℕ) (out : IsOut (answerOf every limit s cut budget space)) where
   abbrev buffer : List ℕ
   buffer = replicate space 0
 
-  demanded : Demanded every s cut budget buffer (bufferOf every s cut budget buffer) (answerOf every s cut budget space)
+  demanded : Demanded every limit s cut budget buffer (bufferOf every limit s cut budget buffer) (answerOf every limit s cut budget space)
   demanded =
-      equations-demand every s cut budget buffer (bufferOf every s cut budget buffer) (answerOf every s cut budget space) (ap (answerOf every s cut budget) (sym (length-replicate {A = ℕ} space 0))) refl
+      equations-demand every limit s cut budget buffer (bufferOf every limit s cut budget buffer) (answerOf every limit s cut budget space) (ap (answerOf every limit s cut budget) (sym (length-replicate {A = ℕ} space 0))) refl
 
   pub full-out : (atoms : List ℕ) → ((a : ℕ) → List·Memᴰ a atoms → OwnAtom s a) → ¬ Derivable every (ownStart s cut atoms) (goalTerm s)
   full-out atoms own = own-out demanded atoms own out
 
   -- and its sheet is good
   pub answered-sheet : refusal s ≡ 0
-  answered-sheet = ok-sheet s cut budget (length buffer) (answer-judged demanded (omega (arith, out .0)))
+  answered-sheet = ok-sheet limit s cut budget (length buffer) (answer-judged demanded (omega (arith, out .0)))

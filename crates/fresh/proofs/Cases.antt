@@ -18,6 +18,7 @@ use Rattle.dag.specs.Record.{entryAt, atomOf, decodeAs}
 use Rattle.dag.proofs.Laws.Good.{good}
 use Rattle.start.specs.Start.{publicHeads, startTerms}
 use Rattle.verdict.specs.Buffer.{front}
+use Rattle.verdict.specs.Refused.{fullLimit}
 use Rattle.verdict.specs.Code.{IsOut}
 use Rattle.verdict.specs.Answer.{answerOf}
 use Rattle.verdict.specs.Demands.{goalTerm}
@@ -27,12 +28,12 @@ use Rattle.fresh.specs.Own.{OwnAtom, ownStart}
 use Rattle.fresh.proofs.Call.{answered-sheet, full-out}
 
 -- the row of cut 2: out of reach
-out-at-2 : IsOut (answerOf every sheetA 2 256 (front + 40 * 256))
+out-at-2 : IsOut (answerOf every fullLimit sheetA 2 256 (front + 40 * 256))
 unfolding rows
 out-at-2 = let q = card .1 .1 .0 .0 in (omega (arith, q), omega (arith, q))
 
 down : Downward (entryAt sheetA) (countOf sheetA)
-down = good sheetA (answered-sheet sheetA 2 256 (front + 40 * 256) out-at-2) .downward
+down = good sheetA (answered-sheet fullLimit sheetA 2 256 (front + 40 * 256) out-at-2) .downward
 
 entries : (entryAt sheetA 0 ≡ Atom 1007) × (entryAt sheetA 1 ≡ Atom 1009) × (entryAt sheetA 2 ≡ Sum (0 ∷ 1 ∷ [])) × (entryAt sheetA 3 ≡ Atom 1012) × (entryAt sheetA 4 ≡ Enc 3 0)
 unfolding numberAt atomOf decodeAs listed
@@ -65,7 +66,7 @@ entry-not-own (inl l) = omega arith
 entry-not-own (inr f) = fresh-record (entryAt sheetA) (countOf sheetA) down 1007 .0 f 0 (omega (arith, five)) (entries .0)
 
 pub stays-out : ¬ Derivable every (ownStart sheetA 2 (5 ∷ 5000 ∷ [])) (goalTerm sheetA)
-stays-out = full-out sheetA 2 256 (front + 40 * 256) out-at-2 (5 ∷ 5000 ∷ []) own
+stays-out = full-out fullLimit sheetA 2 256 (front + 40 * 256) out-at-2 (5 ∷ 5000 ∷ []) own
   where
     own : (a : ℕ) → List·Memᴰ a (5 ∷ 5000 ∷ []) → OwnAtom sheetA a
     own a m =

@@ -22,7 +22,7 @@ use Rattle.dag.specs.Refusal.{refusal}
 use Rattle.dag.proofs.Laws.Good.{good}
 use Rattle.start.specs.Start.{startHeads}
 use Rattle.verdict.specs.Buffer.{gainedIn, stepsIn}
-use Rattle.verdict.specs.Refused.{refusalOf}
+use Rattle.verdict.specs.Refused.{fullLimit, refusalOf}
 use Rattle.verdict.specs.Code.{IsOut}
 use Rattle.verdict.specs.Demands.{Meets, Demanded}
 use Rattle.verdict.proofs.Laws.Answered.{ok-sheet, ok-cut}
@@ -55,10 +55,10 @@ module _ {s : List ℕ} {cut : ℕ} (ok : refusal s ≡ 0) (within : cut ≤ tra
 -- the same of two calls that aren't refused: "At budget 256, turning a switch on never turns reached into out of reach, and where the goal stays out of reach no
 -- gained term is lost"
 pub switch-on : (s : List ℕ) (cut a b : ℕ) → SwitchedIn a b → (old out old′ out′ : List ℕ) (answer answer′ : ℕ)
-    → refusalOf s cut 256 (length old) ≡ 0 → refusalOf s cut 256 (length old′) ≡ 0 → Demanded (switches a) s cut 256 old out answer → Demanded (switches b) s cut 256 old′ out′ answer′
+    → refusalOf fullLimit s cut 256 (length old) ≡ 0 → refusalOf fullLimit s cut 256 (length old′) ≡ 0 → Demanded (switches a) fullLimit s cut 256 old out answer → Demanded (switches b) fullLimit s cut 256 old′ out′ answer′
     → (answer < 2000 → answer′ < 2000) × (IsOut answer′ → (e : ℕ) → member (gainedIn out) e ≡ true → member (gainedIn out′) e ≡ true)
 switch-on s cut a b f old out old′ out′ answer answer′ p p′ d d′ =
-    let ok = ok-sheet s cut 256 (length old) p in
-    let within = ok-cut s cut 256 (length old) p in
+    let ok = ok-sheet fullLimit s cut 256 (length old) p in
+    let within = ok-cut fullLimit s cut 256 (length old) p in
     let includes = switched-includes a b f in
     (reached-stays ok within includes (d .judged p) (d′ .judged p′) (good s ok .few), gained-stays ok within includes (d .judged p) (d′ .judged p′))

@@ -35,9 +35,9 @@ all-switched-in a (suc (suc (suc (suc (suc (suc (suc zero))))))) l p = refl
 all-switched-in a (suc (suc (suc (suc (suc (suc (suc (suc r)))))))) l p = absurd (omega arith)
 
 -- "with all switches on, answer and bytes are the full call's"
-pub all-on : (s : List ℕ) (cut budget : ℕ) (old : List ℕ)
-    → (answerOf (switches 255) s cut budget (length old) ≡ answerOf every s cut budget (length old)) × (bufferOf (switches 255) s cut budget old ≡ bufferOf every s cut budget old)
-all-on s cut budget old = (
-  ap (λ (on : Setting). answerOf on s cut budget (length old)) switches-every,
-  ap (λ (on : Setting). bufferOf on s cut budget old) switches-every,
+pub all-on : (limit : ℕ) (s : List ℕ) (cut budget : ℕ) (old : List ℕ)
+    → (answerOf (switches 255) limit s cut budget (length old) ≡ answerOf every limit s cut budget (length old)) × (bufferOf (switches 255) limit s cut budget old ≡ bufferOf every limit s cut budget old)
+all-on limit s cut budget old = (
+  ap (λ (on : Setting). answerOf on limit s cut budget (length old)) switches-every,
+  ap (λ (on : Setting). bufferOf on limit s cut budget old) switches-every,
 )

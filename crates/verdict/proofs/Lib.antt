@@ -3,4 +3,5 @@ pub mod Card
 pub mod Locks
 pub mod Unique
 pub mod Reading
+pub mod Budgets
 pub mod Refuted

@@ -46,10 +46,10 @@ pub passes-derivable : (on : Setting) (s : List ℕ) (cut k : ℕ) (out : List �
 passes-derivable on s cut k out (end, r, h) = replay-derivable (termAt (entryAt s)) (countOf s) r (goalTerm s) h
 
 -- a number over 12 is no refusal
-pub answer-judged : {on : Setting} {s : List ℕ} {cut budget : ℕ} {old out : List ℕ} {answer : ℕ} → Demanded on s cut budget old out answer
-    → 12 < answer → refusalOf s cut budget (length old) ≡ 0
-answer-judged {on} {s} {cut} {budget} {old} d h =
-    by-cases (ℕ-discrete (refusalOf s cut budget (length old)) 0) (λ p. p) (λ n. absurd (omega (arith, d .refused n .0, refused-le s cut budget (length old))))
+pub answer-judged : {on : Setting} {limit : ℕ} {s : List ℕ} {cut budget : ℕ} {old out : List ℕ} {answer : ℕ} → Demanded on limit s cut budget old out answer
+    → 12 < answer → refusalOf limit s cut budget (length old) ≡ 0
+answer-judged {on} {limit} {s} {cut} {budget} {old} d h =
+    by-cases (ℕ-discrete (refusalOf limit s cut budget (length old)) 0) (λ p. p) (λ n. absurd (omega (arith, d .refused n .0, refused-le limit s cut budget (length old))))
 
 module _ {on : Setting} {s : List ℕ} {cut budget : ℕ} {old out : List ℕ} {answer : ℕ} (ok : refusal s ≡ 0) (m : Meets on s cut budget old out answer) where
   -- the number names the verdict

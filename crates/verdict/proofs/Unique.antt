@@ -70,29 +70,39 @@ module _ (on : Setting) (s : List ℕ) (cut budget : ℕ) (ok : refusal s ≡ 0)
         missing-only on s cut budget ok within (as-run .1)
         (λ w p. subst (λ (ss : List Step). Missing (entryAt s) (countOf s) (startHeads s cut ++ map (λ (r : Step). r .head) ss) (goalOf s) (usedIn out) (remainderIn out)) (as-run .0) (m .missing w p)) (m .own) (m .others)
 
-  module _ {old old′ out out′ : List ℕ} {answer answer′ : ℕ} (m : Meets on s cut budget old out answer) (m′ : Meets on s cut budget old′ out′ answer′) where
-    one-course : (stepsIn out (m .count) ≡ stepsIn out′ (m′ .count)) × (m .verdict ≡ m′ .verdict)
-    one-course = course-unique (entryAt s) (countOf s) (good s ok .downward) (goalOf s) (start-is-heads on s cut budget ok within) (m .course) (m′ .course)
+  -- one course, whatever the other budget: then the numbers, the rungs and the sets are equal
+  module _ {budget′ : ℕ} {old old′ out out′ : List ℕ} {answer answer′ : ℕ} (m : Meets on s cut budget old out answer) (m′ : Meets on s cut budget′ old′ out′ answer′)
+      (steps : stepsIn out (m .count) ≡ stepsIn out′ (m′ .count)) (verdicts : m .verdict ≡ m′ .verdict) where
+    count-same : m .count ≡ m′ .count
+    count-same = sym (steps-count out (m .count)) ∙ ap length steps ∙ steps-count out′ (m′ .count)
 
-    pub one-count : m .count ≡ m′ .count
-    one-count = sym (steps-count out (m .count)) ∙ ap length (one-course .0) ∙ steps-count out′ (m′ .count)
+    missing-same : (usedIn out′ ≡ missingOf on s cut budget .used) × (remainderIn out′ ≡ missingOf on s cut budget .remainder)
+    missing-same =
+        missing-only on s cut budget ok within (sym verdicts ∙ as-run m .1)
+        (λ w p. subst (λ (ss : List Step). Missing (entryAt s) (countOf s) (startHeads s cut ++ map (λ (r : Step). r .head) ss) (goalOf s) (usedIn out′) (remainderIn out′)) (sym steps ∙ as-run m .0) (m′ .missing w p)) (m′ .own) (m′ .others)
 
-    pub meets-unique : (answer ≡ answer′) × (stepsIn out (m .count) ≡ stepsIn out′ (m′ .count)) × (gainedIn out ≡ gainedIn out′) × (usedIn out ≡ usedIn out′) × (remainderIn out ≡ remainderIn out′)
-    meets-unique = (
-      m .coded ∙ ap₂ (λ v k. verdictCode v + k) (one-course .1) one-count ∙ sym (m′ .coded),
-      one-course .0,
-      sets-equal _ _ (m .known) (subst (λ (ss : List Step). (e : ℕ) → (member (gainedIn out′) e ≡ true) ↔ List·Memᴰ e (startHeads s cut ++ map (λ (r : Step). r .head) ss)) (sym (one-course .0)) (m′ .known)),
-      missing-run m .0 ∙ sym (missing-run m′ .0),
-      missing-run m .1 ∙ sym (missing-run m′ .1),
+    pub same-work : (answer ≡ answer′) × (stepsIn out (m .count) ≡ stepsIn out′ (m′ .count)) × (gainedIn out ≡ gainedIn out′) × (usedIn out ≡ usedIn out′) × (remainderIn out ≡ remainderIn out′)
+    same-work = (
+      m .coded ∙ ap₂ (λ v k. verdictCode v + k) verdicts count-same ∙ sym (m′ .coded),
+      steps,
+      sets-equal _ _ (m .known) (subst (λ (ss : List Step). (e : ℕ) → (member (gainedIn out′) e ≡ true) ↔ List·Memᴰ e (startHeads s cut ++ map (λ (r : Step). r .head) ss)) (sym steps) (m′ .known)),
+      missing-run m .0 ∙ sym (missing-same .0),
+      missing-run m .1 ∙ sym (missing-same .1),
     )
 
+  module _ {old old′ out out′ : List ℕ} {answer answer′ : ℕ} (m : Meets on s cut budget old out answer) (m′ : Meets on s cut budget old′ out′ answer′) where
+    pub meets-unique : (answer ≡ answer′) × (stepsIn out (m .count) ≡ stepsIn out′ (m′ .count)) × (gainedIn out ≡ gainedIn out′) × (usedIn out ≡ usedIn out′) × (remainderIn out ≡ remainderIn out′)
+    meets-unique =
+        let (steps, verdicts) = course-unique (entryAt s) (countOf s) (good s ok .downward) (goalOf s) (start-is-heads on s cut budget ok within) (m .course) (m′ .course) in
+        same-work m m′ steps verdicts
+
 -- a call that isn't refused, with a buffer of bytes: what was written is what is read back
-module _ (on : Setting) (s : List ℕ) (cut budget : ℕ) (old : List ℕ) (ok : refusalOf s cut budget (length old) ≡ 0) where
+module _ (on : Setting) (limit : ℕ) (s : List ℕ) (cut budget : ℕ) (old : List ℕ) (ok : refusalOf limit s cut budget (length old) ≡ 0) where
   sheet-ok : refusal s ≡ 0
-  sheet-ok = ok-sheet s cut budget (length old) ok
+  sheet-ok = ok-sheet limit s cut budget (length old) ok
 
   cut-ok : cut ≤ traceLength s
-  cut-ok = ok-cut s cut budget (length old) ok
+  cut-ok = ok-cut limit s cut budget (length old) ok
 
   abbrev o : Outcome
   o = outcomeOf on s cut budget
@@ -102,35 +112,35 @@ module _ (on : Setting) (s : List ℕ) (cut budget : ℕ) (old : List ℕ) (ok :
         → out ≡ frontBytes (gainedIn out) (usedIn out) (remainderIn out) ++ (stepsBytes (stepsIn out (m .count)) ++ drop (front + 40 * m .count) old)
     written m =
         let b : length (stepsIn out (m .count)) ≤ budget = course-budget (m .course) in
-        let room : front + 40 * m .count ≤ length out = omega (arith, steps-count out (m .count), ok-space s cut budget (length old) ok) in
+        let room : front + 40 * m .count ≤ length out = omega (arith, steps-count out (m .count), ok-space limit s cut budget (length old) ok) in
         buffer-back out (m .count) room bytes ∙ ap (λ (rest : List ℕ). frontBytes (gainedIn out) (usedIn out) (remainderIn out) ++ (stepsBytes (stepsIn out (m .count)) ++ rest)) (m .kept)
 
     -- the demands on such a call give the two equations
-    meets-equations : (answer : ℕ) → Meets on s cut budget old out answer → (answer ≡ answerOf on s cut budget (length old)) × (out ≡ bufferOf on s cut budget old)
+    meets-equations : (answer : ℕ) → Meets on s cut budget old out answer → (answer ≡ answerOf on limit s cut budget (length old)) × (out ≡ bufferOf on limit s cut budget old)
     unfolding frontOf
     meets-equations answer m =
         let ss = as-run on s cut budget sheet-ok cut-ok m .0 in
         let k = count-run on s cut budget sheet-ok cut-ok m in
-        let u : gainedIn out ≡ knowledge (entryAt s) (o .learnt) .known = meets-unique on s cut budget sheet-ok cut-ok m (accepted-meets on s cut budget old ok) .2 ∙ accepted-known on s cut budget old ok in
+        let u : gainedIn out ≡ knowledge (entryAt s) (o .learnt) .known = meets-unique on s cut budget sheet-ok cut-ok m (accepted-meets on limit s cut budget old ok) .2 ∙ accepted-known on limit s cut budget old ok in
         let (used, remainder) = missing-run on s cut budget sheet-ok cut-ok m in (
-          answer-run on s cut budget sheet-ok cut-ok m ∙ sym (accepted-answer on s cut budget old ok),
-          written m ∙ (λ i. frontBytes (u i) (used i) (remainder i) ++ (stepsBytes (ss i) ++ drop (front + 40 * k i) old)) ∙ sym (accepted-buffer on s cut budget old ok),
+          answer-run on s cut budget sheet-ok cut-ok m ∙ sym (accepted-answer on limit s cut budget old ok),
+          written m ∙ (λ i. frontBytes (u i) (used i) (remainder i) ++ (stepsBytes (ss i) ++ drop (front + 40 * k i) old)) ∙ sym (accepted-buffer on limit s cut budget old ok),
         )
 
 -- refused or not: an answer and a buffer of bytes are as demanded exactly when they are those of the equations
-pub demands-equations : (on : Setting) (s : List ℕ) (cut budget : ℕ) (old out : List ℕ) (answer : ℕ) → Below 8 out → length out ≡ length old
-    → Demanded on s cut budget old out answer ↔ ((answer ≡ answerOf on s cut budget (length old)) × (out ≡ bufferOf on s cut budget old))
-demands-equations on s cut budget old out answer bytes size = (
+pub demands-equations : (on : Setting) (limit : ℕ) (s : List ℕ) (cut budget : ℕ) (old out : List ℕ) (answer : ℕ) → Below 8 out → length out ≡ length old
+    → Demanded on limit s cut budget old out answer ↔ ((answer ≡ answerOf on limit s cut budget (length old)) × (out ≡ bufferOf on limit s cut budget old))
+demands-equations on limit s cut budget old out answer bytes size = (
   λ d.
-      by-cases (ℕ-discrete (refusalOf s cut budget (length old)) 0) (λ ok. meets-equations on s cut budget old ok out bytes size answer (d .judged ok))
-      (λ n. (d .refused n .0 ∙ refused-answer on s cut budget (length old) n, d .refused n .1 ∙ refused-buffer on s cut budget old n)),
-  λ (p, q). equations-demand on s cut budget old out answer p q,
+      by-cases (ℕ-discrete (refusalOf limit s cut budget (length old)) 0) (λ ok. meets-equations on limit s cut budget old ok out bytes size answer (d .judged ok))
+      (λ n. (d .refused n .0 ∙ refused-answer on limit s cut budget (length old) n, d .refused n .1 ∙ refused-buffer on limit s cut budget old n)),
+  λ (p, q). equations-demand on limit s cut budget old out answer p q,
 )
 
 -- so two answers and buffers of bytes that are as demanded after one buffer are equal, byte for byte
-pub demands-unique : (on : Setting) (s : List ℕ) (cut budget : ℕ) (old out out′ : List ℕ) (answer answer′ : ℕ) → Below 8 out → Below 8 out′ → length out ≡ length old → length out′ ≡ length old
-    → Demanded on s cut budget old out answer → Demanded on s cut budget old out′ answer′ → (answer ≡ answer′) × (out ≡ out′)
-demands-unique on s cut budget old out out′ answer answer′ b b′ l l′ d d′ =
-    let (p, q) = demands-equations on s cut budget old out answer b l .0 d in
-    let (p′, q′) = demands-equations on s cut budget old out′ answer′ b′ l′ .0 d′ in
+pub demands-unique : (on : Setting) (limit : ℕ) (s : List ℕ) (cut budget : ℕ) (old out out′ : List ℕ) (answer answer′ : ℕ) → Below 8 out → Below 8 out′ → length out ≡ length old → length out′ ≡ length old
+    → Demanded on limit s cut budget old out answer → Demanded on limit s cut budget old out′ answer′ → (answer ≡ answer′) × (out ≡ out′)
+demands-unique on limit s cut budget old out out′ answer answer′ b b′ l l′ d d′ =
+    let (p, q) = demands-equations on limit s cut budget old out answer b l .0 d in
+    let (p′, q′) = demands-equations on limit s cut budget old out′ answer′ b′ l′ .0 d′ in
     (p ∙ sym p′, q ∙ sym q′)

@@ -1,5 +1,5 @@
 -- What a verdict call answers and writes, for every input (document 01: "Rungs", "Grounding table").
--- The same promise as `Demanded` (specs/Demands.antt), as equations with the run, for each setting of the rules. Defined: `outcomeOf`, `answerOf`,
+-- The same promise as `Demanded` (specs/Demands.antt), as equations with the run, for each setting of the rules and each limit on the budget. Defined: `outcomeOf`, `answerOf`,
 -- `missingOf`, `frontOf`, `bufferOf`.
 use Prim.Native.Nat.{ℕ, _+_, _*_}
 use mathlib.Core.Bool.{cond}
@@ -23,10 +23,10 @@ unfoldable pub outcomeOf : Setting → List ℕ → ℕ → ℕ → Outcome
 outcomeOf on s cut budget = run on (entryAt s) (countOf s) (goalOf s) budget (startHeads s cut)
 
 -- "a refusal number, or the rung count plus" the verdict's number
-unfoldable pub answerOf : Setting → List ℕ → ℕ → ℕ → ℕ → ℕ
-answerOf on s cut budget space =
-    cond (eqb (refusalOf s cut budget space) 0) (verdictCode (outcomeOf on s cut budget .verdict) + length (outcomeOf on s cut budget .steps))
-    (refusalOf s cut budget space)
+unfoldable pub answerOf : Setting → ℕ → List ℕ → ℕ → ℕ → ℕ → ℕ
+answerOf on limit s cut budget space =
+    cond (eqb (refusalOf limit s cut budget space) 0) (verdictCode (outcomeOf on s cut budget .verdict) + length (outcomeOf on s cut budget .steps))
+    (refusalOf limit s cut budget space)
 
 -- what is missing at out of reach; nothing for the other verdicts
 unfoldable pub missingAs : Verdict → Reduced → Reduced
@@ -53,9 +53,9 @@ frontOf on s cut budget =
     frontBytes (knowledge (entryAt s) (outcomeOf on s cut budget .learnt) .known) (missingOf on s cut budget .used) (missingOf on s cut budget .remainder)
 
 -- these, "then 40 bytes a rung .. Later bytes keep their values". "A refusal returns its number alone; the buffer keeps every byte"
-unfoldable pub bufferOf : Setting → List ℕ → ℕ → ℕ → List ℕ → List ℕ
-bufferOf on s cut budget old =
-    cond (eqb (refusalOf s cut budget (length old)) 0)
+unfoldable pub bufferOf : Setting → ℕ → List ℕ → ℕ → ℕ → List ℕ → List ℕ
+bufferOf on limit s cut budget old =
+    cond (eqb (refusalOf limit s cut budget (length old)) 0)
     (frontOf on s cut budget
     ++ (stepsBytes (outcomeOf on s cut budget .steps) ++ drop (front + 40 * length (outcomeOf on s cut budget .steps)) old))
     old

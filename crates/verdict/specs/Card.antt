@@ -11,6 +11,7 @@ use Rattle.deduction.specs.Run.{knowledge}
 use Rattle.dag.specs.Record.{entryAt}
 use Rattle.deduction.specs.Step.{Step, step, unused}
 use Rattle.verdict.specs.Buffer.{front}
+use Rattle.verdict.specs.Refused.{fullLimit}
 use Rattle.verdict.specs.Answer.{outcomeOf, answerOf, missingOf}
 
 pub record Case : Type 0 where
@@ -185,7 +186,7 @@ rows =
 -- with these rules switched on, the definitions yield the row
 abbrev pub Yields : Setting → Case → Type 0
 Yields on c =
-    (answerOf on (c .sheet) (c .cut) (c .budget) (front + 40 * c .budget) ≡ c .answer)
+    (answerOf on fullLimit (c .sheet) (c .cut) (c .budget) (front + 40 * c .budget) ≡ c .answer)
     × (ones (knowledge (entryAt (c .sheet)) (outcomeOf on (c .sheet) (c .cut) (c .budget) .learnt) .known) ≡ c .known)
     × (missingOf on (c .sheet) (c .cut) (c .budget) .used ≡ c .used)
     × (missingOf on (c .sheet) (c .cut) (c .budget) .remainder ≡ c .remainder)

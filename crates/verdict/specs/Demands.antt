@@ -80,6 +80,6 @@ pub record Meets (on : Setting) (s : List ℕ) (cut budget : ℕ) (old out : Lis
   pub out-of-reach : verdict ≡ underivable → ¬ Derivable on (startTerms s cut) (goalTerm s)
 
 -- the whole promise of a call: "A refusal returns its number alone; the buffer keeps every byte"; every other call meets the demands
-pub record Demanded (on : Setting) (s : List ℕ) (cut budget : ℕ) (old out : List ℕ) (answer : ℕ) : Type 0 where
-  pub refused : ¬ (refusalOf s cut budget (length old) ≡ 0) → (answer ≡ refusalOf s cut budget (length old)) × (out ≡ old)
-  pub judged : refusalOf s cut budget (length old) ≡ 0 → Meets on s cut budget old out answer
+pub record Demanded (on : Setting) (limit : ℕ) (s : List ℕ) (cut budget : ℕ) (old out : List ℕ) (answer : ℕ) : Type 0 where
+  pub refused : ¬ (refusalOf limit s cut budget (length old) ≡ 0) → (answer ≡ refusalOf limit s cut budget (length old)) × (out ≡ old)
+  pub judged : refusalOf limit s cut budget (length old) ≡ 0 → Meets on s cut budget old out answer

@@ -7,8 +7,9 @@ ghost use Rattle.dag.specs.Sheet.{traceLength};
 ghost use Rattle.dag.specs.Refusal.{refusal};
 ghost use Rattle.dag.specs.Code.{codeOf};
 ghost use Rattle.verdict.specs.Buffer.{front};
-ghost use Rattle.verdict.specs.Refused.{refusalOf};
+ghost use Rattle.verdict.specs.Refused.{fullLimit, quickLimit, refusalOf};
 ghost use Rattle.verdict.specs.Demands.{Demanded};
+ghost use Rattle.verdict.specs.Agrees.{Agrees};
 ghost use Rattle.verdict.specs.Answer.{answerOf, bufferOf};
 ghost use Rattle.verdict.specs.Code.{numberOf, madeIn};
 ghost use Rattle.verdict.specs.Inner.Decide.{Decided};
@@ -21,6 +22,11 @@ use derive::run::Verdict;
 mod front;
 
 pub use front::FRONT;
+
+// The largest budget of the full call, and of the quick one (document 02, E7).
+pub const FULL_LIMIT: u32 = 256;
+
+pub const QUICK_LIMIT: u32 = 64;
 
 // The answer: refused, or the verdict with the number of steps made (document 01: reached, out of reach, stopped).
 pub enum Answer {
@@ -68,9 +74,9 @@ fn decide(s: &[u8], cut: u16, budget: u16, rules: u8, out: &mut [u8]) -> Ended
 // The answer to a call that isn't refused.
 fn judged(s: &[u8], cut: u16, budget: u16, rules: u8, out: &mut [u8]) -> Answer
     requires { ⌜ (refusal (now s) ≡ 0) × (cut ≤ traceLength (now s)) × (budget ≤ 256) × (front + 40 * budget ≤ length (now out)) ⌝ }
-    ensures answer { λ r. ⌜ numberOf r ≡ answerOf (switches rules) (now (s .entry)) cut budget (length (now (out .entry))) ⌝ }
+    ensures answer { λ r. ⌜ numberOf r ≡ answerOf (switches rules) fullLimit (now (s .entry)) cut budget (length (now (out .entry))) ⌝ }
     ensures few { λ r. ⌜ madeIn r ≤ 256 ⌝ }
-    ensures bytes { λ _. ⌜ now (out .exit) ≡ bufferOf (switches rules) (now (s .entry)) cut budget (now (out .entry)) ⌝ }
+    ensures bytes { λ _. ⌜ now (out .exit) ≡ bufferOf (switches rules) fullLimit (now (s .entry)) cut budget (now (out .entry)) ⌝ }
 {
     let ended = decide(s, cut, budget, rules, out);
     let made = ended.made;
@@ -82,9 +88,9 @@ fn judged(s: &[u8], cut: u16, budget: u16, rules: u8, out: &mut [u8]) -> Answer
     }
 }
 
-// Which row of the grounding table refuses the call, if any.
-fn refused(sheet: &[u8], cut: u32, budget: u32, space: usize) -> Refusal
-    ensures { λ r. ⌜ codeOf r ≡ refusalOf (now (sheet .entry)) cut budget space ⌝ }
+// Which row of the grounding table refuses the call, if any. The limit is the largest budget that isn't refused.
+fn refused(limit: u32, sheet: &[u8], cut: u32, budget: u32, space: usize) -> Refusal
+    ensures { λ r. ⌜ codeOf r ≡ refusalOf limit (now (sheet .entry)) cut budget space ⌝ }
 {
     let r = dag::validate(sheet);
     if dag::code(r) != 0 {
@@ -93,7 +99,7 @@ fn refused(sheet: &[u8], cut: u32, budget: u32, space: usize) -> Refusal
     if (sheet::trace_len(sheet) as u32) < cut {
         return Refusal::PastTheLog;
     }
-    if 256 < budget {
+    if limit < budget {
         return Refusal::OverBudget;
     }
     if space < FRONT + 40 * (budget as usize) {
@@ -102,34 +108,59 @@ fn refused(sheet: &[u8], cut: u32, budget: u32, space: usize) -> Refusal
     Refusal::Nothing
 }
 
-// The verdict call by the rules switched on. A refusal leaves every byte of out; otherwise out gets the known set, what is missing, 40 bytes a step,
-// and keeps its later bytes. Only as many bytes as the budget needs are lent to what follows. (As it calls itself, the compiler keeps the large tables
-// of `judged` out of its frame: a refused call needs little stack.)
-pub fn limited(sheet: &[u8], cut: u32, budget: u32, rules: u8, out: &mut [u8]) -> Answer
-    ensures answer { λ r. ⌜ numberOf r ≡ answerOf (switches rules) (now (sheet .entry)) cut budget (length (now (out .entry))) ⌝ }
+// The verdict call with a limit, by the rules switched on: what every entry point uses. A refusal leaves every byte of out; otherwise out gets the known
+// set, what is missing, 40 bytes a step, and keeps its later bytes. Only as many bytes as the budget needs are lent to what follows. (As it calls itself,
+// the compiler keeps the large tables of `judged` out of its frame: a refused call needs little stack.)
+fn within(limit: u32, sheet: &[u8], cut: u32, budget: u32, rules: u8, out: &mut [u8]) -> Answer
+    requires { ⌜ limit ≤ 256 ⌝ }
+    ensures answer { λ r. ⌜ numberOf r ≡ answerOf (switches rules) limit (now (sheet .entry)) cut budget (length (now (out .entry))) ⌝ }
     ensures few { λ r. ⌜ madeIn r ≤ 256 ⌝ }
-    ensures bytes { λ _. ⌜ now (out .exit) ≡ bufferOf (switches rules) (now (sheet .entry)) cut budget (now (out .entry)) ⌝ }
-    ensures demands { λ r. ⌜ Demanded (switches rules) (now (sheet .entry)) cut budget (now (out .entry)) (now (out .exit)) (numberOf r) ⌝ }
+    ensures bytes { λ _. ⌜ now (out .exit) ≡ bufferOf (switches rules) limit (now (sheet .entry)) cut budget (now (out .entry)) ⌝ }
+    ensures demands { λ r. ⌜ Demanded (switches rules) limit (now (sheet .entry)) cut budget (now (out .entry)) (now (out .exit)) (numberOf r) ⌝ }
+    ensures agrees { λ r. ⌜ Agrees (switches rules) (now (sheet .entry)) cut (numberOf r) ⌝ }
 {
     let need = FRONT + 40 * (budget as usize);
     if need < out.len() {
-        return limited(sheet, cut, budget, rules, &mut out[..need]);
+        return within(limit, sheet, cut, budget, rules, &mut out[..need]);
     }
-    let r = refused(sheet, cut, budget, out.len());
+    let r = refused(limit, sheet, cut, budget, out.len());
     if dag::code(r) != 0 {
         return Answer::Refused(r);
     }
     judged(sheet, cut as u16, budget as u16, rules, out)
 }
 
+// The verdict call by the rules switched on.
+pub fn limited(sheet: &[u8], cut: u32, budget: u32, rules: u8, out: &mut [u8]) -> Answer
+    ensures answer { λ r. ⌜ numberOf r ≡ answerOf (switches rules) fullLimit (now (sheet .entry)) cut budget (length (now (out .entry))) ⌝ }
+    ensures few { λ r. ⌜ madeIn r ≤ 256 ⌝ }
+    ensures bytes { λ _. ⌜ now (out .exit) ≡ bufferOf (switches rules) fullLimit (now (sheet .entry)) cut budget (now (out .entry)) ⌝ }
+    ensures demands { λ r. ⌜ Demanded (switches rules) fullLimit (now (sheet .entry)) cut budget (now (out .entry)) (now (out .exit)) (numberOf r) ⌝ }
+    ensures agrees { λ r. ⌜ Agrees (switches rules) (now (sheet .entry)) cut (numberOf r) ⌝ }
+{
+    within(FULL_LIMIT, sheet, cut, budget, rules, out)
+}
+
 // The verdict call with every rule on.
 pub fn verdict(sheet: &[u8], cut: u32, budget: u32, out: &mut [u8]) -> Answer
-    ensures answer { λ r. ⌜ numberOf r ≡ answerOf every (now (sheet .entry)) cut budget (length (now (out .entry))) ⌝ }
+    ensures answer { λ r. ⌜ numberOf r ≡ answerOf every fullLimit (now (sheet .entry)) cut budget (length (now (out .entry))) ⌝ }
     ensures few { λ r. ⌜ madeIn r ≤ 256 ⌝ }
-    ensures bytes { λ _. ⌜ now (out .exit) ≡ bufferOf every (now (sheet .entry)) cut budget (now (out .entry)) ⌝ }
-    ensures demands { λ r. ⌜ Demanded every (now (sheet .entry)) cut budget (now (out .entry)) (now (out .exit)) (numberOf r) ⌝ }
+    ensures bytes { λ _. ⌜ now (out .exit) ≡ bufferOf every fullLimit (now (sheet .entry)) cut budget (now (out .entry)) ⌝ }
+    ensures demands { λ r. ⌜ Demanded every fullLimit (now (sheet .entry)) cut budget (now (out .entry)) (now (out .exit)) (numberOf r) ⌝ }
+    ensures agrees { λ r. ⌜ Agrees every (now (sheet .entry)) cut (numberOf r) ⌝ }
 {
     limited(sheet, cut, budget, rules::EVERY, out)
+}
+
+// The same while a planner types: for a budget of at most 64.
+pub fn quick(sheet: &[u8], cut: u32, budget: u32, out: &mut [u8]) -> Answer
+    ensures answer { λ r. ⌜ numberOf r ≡ answerOf every quickLimit (now (sheet .entry)) cut budget (length (now (out .entry))) ⌝ }
+    ensures few { λ r. ⌜ madeIn r ≤ 256 ⌝ }
+    ensures bytes { λ _. ⌜ now (out .exit) ≡ bufferOf every quickLimit (now (sheet .entry)) cut budget (now (out .entry)) ⌝ }
+    ensures demands { λ r. ⌜ Demanded every quickLimit (now (sheet .entry)) cut budget (now (out .entry)) (now (out .exit)) (numberOf r) ⌝ }
+    ensures agrees { λ r. ⌜ Agrees every (now (sheet .entry)) cut (numberOf r) ⌝ }
+{
+    within(QUICK_LIMIT, sheet, cut, budget, rules::EVERY, out)
 }
 
 // The number of an answer: a refusal's, or the steps made plus 1,000, 2,000 or 3,000.
@@ -147,9 +178,10 @@ fn number(a: Answer) -> u32
 // The same for callers in C, on numbers and byte buffers.
 #[no_mangle]
 pub extern "C" fn zuwendryk_verdict(sheet: &[u8], cut: u32, budget: u32, buffer: &mut [u8]) -> u32
-    ensures answer { λ r. ⌜ r ≡ answerOf every (now (sheet .entry)) cut budget (length (now (buffer .entry))) ⌝ }
-    ensures bytes { λ _. ⌜ now (buffer .exit) ≡ bufferOf every (now (sheet .entry)) cut budget (now (buffer .entry)) ⌝ }
-    ensures demands { λ r. ⌜ Demanded every (now (sheet .entry)) cut budget (now (buffer .entry)) (now (buffer .exit)) r ⌝ }
+    ensures answer { λ r. ⌜ r ≡ answerOf every fullLimit (now (sheet .entry)) cut budget (length (now (buffer .entry))) ⌝ }
+    ensures bytes { λ _. ⌜ now (buffer .exit) ≡ bufferOf every fullLimit (now (sheet .entry)) cut budget (now (buffer .entry)) ⌝ }
+    ensures demands { λ r. ⌜ Demanded every fullLimit (now (sheet .entry)) cut budget (now (buffer .entry)) (now (buffer .exit)) r ⌝ }
+    ensures agrees { λ r. ⌜ Agrees every (now (sheet .entry)) cut r ⌝ }
 {
     number(verdict(sheet, cut, budget, buffer))
 }
@@ -163,11 +195,30 @@ pub extern "C" fn zuwendryk_limited_verdict(
     rules: u8,
     buffer: &mut [u8],
 ) -> u32
-    ensures answer { λ r. ⌜ r ≡ answerOf (switches rules) (now (sheet .entry)) cut budget (length (now (buffer .entry))) ⌝ }
-    ensures bytes { λ _. ⌜ now (buffer .exit) ≡ bufferOf (switches rules) (now (sheet .entry)) cut budget (now (buffer .entry)) ⌝ }
-    ensures demands { λ r. ⌜ Demanded (switches rules) (now (sheet .entry)) cut budget (now (buffer .entry)) (now (buffer .exit)) r ⌝ }
+    ensures answer { λ r. ⌜ r ≡ answerOf (switches rules) fullLimit (now (sheet .entry)) cut budget (length (now (buffer .entry))) ⌝ }
+    ensures bytes { λ _. ⌜ now (buffer .exit) ≡ bufferOf (switches rules) fullLimit (now (sheet .entry)) cut budget (now (buffer .entry)) ⌝ }
+    ensures demands { λ r. ⌜ Demanded (switches rules) fullLimit (now (sheet .entry)) cut budget (now (buffer .entry)) (now (buffer .exit)) r ⌝ }
+    ensures agrees { λ r. ⌜ Agrees (switches rules) (now (sheet .entry)) cut r ⌝ }
 {
     number(limited(sheet, cut, budget, rules, buffer))
+}
+
+// The verdict while a planner types. A budget over 64 is refused; with any other, answer and bytes are those of the full call.
+#[no_mangle]
+pub extern "C" fn zuwendryk_quick_verdict(
+    sheet: &[u8],
+    cut: u32,
+    budget: u32,
+    buffer: &mut [u8],
+) -> u32
+    ensures answer { λ r. ⌜ r ≡ answerOf every quickLimit (now (sheet .entry)) cut budget (length (now (buffer .entry))) ⌝ }
+    ensures bytes { λ _. ⌜ now (buffer .exit) ≡ bufferOf every quickLimit (now (sheet .entry)) cut budget (now (buffer .entry)) ⌝ }
+    ensures demands { λ r. ⌜ Demanded every quickLimit (now (sheet .entry)) cut budget (now (buffer .entry)) (now (buffer .exit)) r ⌝ }
+    ensures agrees { λ r. ⌜ Agrees every (now (sheet .entry)) cut r ⌝ }
+    ensures full_answer { λ r. ⌜ (budget ≤ quickLimit → r ≡ answerOf every fullLimit (now (sheet .entry)) cut budget (length (now (buffer .entry)))) ⌝ }
+    ensures full_bytes { λ _. ⌜ (budget ≤ quickLimit → now (buffer .exit) ≡ bufferOf every fullLimit (now (sheet .entry)) cut budget (now (buffer .entry))) ⌝ }
+{
+    number(quick(sheet, cut, budget, buffer))
 }
 
 // Is this a good sheet? For callers in C: the number of the refusal, 1 to 7 or 12, or 0.

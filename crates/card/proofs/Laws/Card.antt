@@ -21,7 +21,7 @@ use Rattle.dag.specs.Record.{entryAt}
 use Rattle.dag.specs.Refusal.{refusal}
 use Rattle.dag.proofs.Laws.Good.{good}
 use Rattle.derive.proofs.Laws.Buffer.{part-whole}
-use Rattle.verdict.specs.Refused.{refusalOf}
+use Rattle.verdict.specs.Refused.{fullLimit, refusalOf}
 use Rattle.verdict.specs.Buffer.{front, gainedIn, readStep, stepsIn}
 use Rattle.verdict.specs.Demands.{verdictCode}
 use Rattle.verdict.specs.Answer.{outcomeOf, answerOf, bufferOf}
@@ -76,16 +76,16 @@ module _ (s : List ℕ) (cut : ℕ) (old : List ℕ) (good-sheet : refusal s ≡
   abbrev known : ℕ
   known = ones (knowledge (entryAt s) (o .learnt) .known)
 
-  fine : refusalOf s cut 256 (length old) ≡ 0
-  fine = sym (accepted s cut 256 (length old) good-sheet within (omega arith) (omega arith))
+  fine : refusalOf fullLimit s cut 256 (length old) ≡ 0
+  fine = sym (accepted fullLimit s cut 256 (length old) good-sheet within (omega arith) (omega arith))
 
-  number : {answer : ℕ} → answer ≡ answerOf every s cut 256 (length old) → (v : Verdict) → o .verdict ≡ v → answer ≡ verdictCode v + length (o .steps)
-  number p v q = p ∙ accepted-answer every s cut 256 old fine ∙ ap (λ (w : Verdict). verdictCode w + length (o .steps)) q
+  number : {answer : ℕ} → answer ≡ answerOf every fullLimit s cut 256 (length old) → (v : Verdict) → o .verdict ≡ v → answer ≡ verdictCode v + length (o .steps)
+  number p v q = p ∙ accepted-answer every fullLimit s cut 256 old fine ∙ ap (λ (w : Verdict). verdictCode w + length (o .steps)) q
 
   pub few : length (o .steps) ≤ 256
-  few = accepted-few every s cut 256 old fine
+  few = accepted-few every fullLimit s cut 256 old fine
 
-  pub at-least : {answer : ℕ} → answer ≡ answerOf every s cut 256 (length old) → 1000 ≤ answer
+  pub at-least : {answer : ℕ} → answer ≡ answerOf every fullLimit s cut 256 (length old) → 1000 ≤ answer
   at-least {answer} p = go (o .verdict) refl
     where
       go : (v : Verdict) → o .verdict ≡ v → 1000 ≤ answer
@@ -93,7 +93,7 @@ module _ (s : List ℕ) (cut : ℕ) (old : List ℕ) (good-sheet : refusal s ≡
       go underivable q = omega (arith, number p underivable q)
       go exhausted q = omega (arith, number p exhausted q)
 
-  is-derivable : {answer : ℕ} → answer ≡ answerOf every s cut 256 (length old) → answer < 2000 → o .verdict ≡ derivable
+  is-derivable : {answer : ℕ} → answer ≡ answerOf every fullLimit s cut 256 (length old) → answer < 2000 → o .verdict ≡ derivable
   is-derivable {answer} p h = go (o .verdict) refl
     where
       go : (v : Verdict) → o .verdict ≡ v → o .verdict ≡ derivable
@@ -101,19 +101,19 @@ module _ (s : List ℕ) (cut : ℕ) (old : List ℕ) (good-sheet : refusal s ≡
       go underivable q = absurd (omega (arith, number p underivable q))
       go exhausted q = absurd (omega (arith, number p exhausted q))
 
-  is-underivable : {answer : ℕ} → answer ≡ answerOf every s cut 256 (length old) → 2000 ≤ answer → o .verdict ≡ underivable
+  is-underivable : {answer : ℕ} → answer ≡ answerOf every fullLimit s cut 256 (length old) → 2000 ≤ answer → o .verdict ≡ underivable
   is-underivable {answer} p h = go (o .verdict) refl
     where
       go : (v : Verdict) → o .verdict ≡ v → o .verdict ≡ underivable
       go derivable q = absurd (omega (arith, number p derivable q, few))
       go underivable q = q
-      go exhausted q = absurd (accepted-ends every s cut 256 old fine (good s good-sheet .few) q)
+      go exhausted q = absurd (accepted-ends every fullLimit s cut 256 old fine (good s good-sheet .few) q)
 
   -- the rungs that come with a number below 2000
-  pub made-steps : {answer made : ℕ} → answer ≡ answerOf every s cut 256 (length old) → answer < 2000 → made ≡ answer - 1000 → made ≡ length (o .steps)
+  pub made-steps : {answer made : ℕ} → answer ≡ answerOf every fullLimit s cut 256 (length old) → answer < 2000 → made ≡ answer - 1000 → made ≡ length (o .steps)
   made-steps p h q = omega (arith, number p derivable (is-derivable p h))
 
-  pub shown-reached : {answer made : ℕ} {d d₁ d₂ new : List ℕ} {at r₁ r₂ : ℕ} → answer ≡ answerOf every s cut 256 (length old) → answer < 2000 → made ≡ answer - 1000 → new ≡ bufferOf every s cut 256 old
+  pub shown-reached : {answer made : ℕ} {d d₁ d₂ new : List ℕ} {at r₁ r₂ : ℕ} → answer ≡ answerOf every fullLimit s cut 256 (length old) → answer < 2000 → made ≡ answer - 1000 → new ≡ bufferOf every fullLimit s cut 256 old
       → Appended d at (reachedLine cut made) d₁ r₁ → Appended d₁ r₁ (stepsText (stepsIn new made)) d₂ r₂ → Appended d at (cutText s cut) d₂ r₂
   unfolding cutText verdictText
   shown-reached {answer} {made} {new = new} p h q b line steps =
@@ -124,13 +124,13 @@ module _ (s : List ℕ) (cut : ℕ) (old : List ℕ) (good-sheet : refusal s ≡
       many = made-steps p h q
 
       back : stepsIn new made ≡ o .steps
-      back = ap₂ stepsIn b many ∙ accepted-steps every s cut 256 old fine
+      back = ap₂ stepsIn b many ∙ accepted-steps every fullLimit s cut 256 old fine
 
-  pub reached-is : {answer : ℕ} → answer ≡ answerOf every s cut 256 (length old) → answer < 2000 → isReached (o .verdict) ≡ true
+  pub reached-is : {answer : ℕ} → answer ≡ answerOf every fullLimit s cut 256 (length old) → answer < 2000 → isReached (o .verdict) ≡ true
   unfolding isReached
   reached-is p h = ap isReached (is-derivable p h)
 
-  pub shown-out : {answer count : ℕ} {d d₁ new : List ℕ} {at r₁ : ℕ} → answer ≡ answerOf every s cut 256 (length old) → 2000 ≤ answer → new ≡ bufferOf every s cut 256 old
+  pub shown-out : {answer count : ℕ} {d d₁ new : List ℕ} {at r₁ : ℕ} → answer ≡ answerOf every fullLimit s cut 256 (length old) → 2000 ≤ answer → new ≡ bufferOf every fullLimit s cut 256 old
       → count ≡ ones (cond (leb 32 (length new)) (setOf (take 32 new)) 0) → length new ≡ front + 40 * 256 → Appended d at (outLine cut count) d₁ r₁ → Appended d at (cutText s cut) d₁ r₁
   unfolding cutText verdictText
   shown-out {count = count} {new = new} p h b q l line =
@@ -139,9 +139,9 @@ module _ (s : List ℕ) (cut : ℕ) (old : List ℕ) (good-sheet : refusal s ≡
       figure : count ≡ known
       figure =
           q
-          ∙ ap ones (when-le 32 (length new) (setOf (take 32 new)) 0 (omega arith) ∙ ap gainedIn b ∙ accepted-known every s cut 256 old fine)
+          ∙ ap ones (when-le 32 (length new) (setOf (take 32 new)) 0 (omega arith) ∙ ap gainedIn b ∙ accepted-known every fullLimit s cut 256 old fine)
 
-  pub out-is : {answer : ℕ} → answer ≡ answerOf every s cut 256 (length old) → 2000 ≤ answer → isReached (o .verdict) ≡ false
+  pub out-is : {answer : ℕ} → answer ≡ answerOf every fullLimit s cut 256 (length old) → 2000 ≤ answer → isReached (o .verdict) ≡ false
   unfolding isReached
   out-is p h = ap isReached (is-underivable p h)
 

@@ -1,11 +1,11 @@
 -- The course of the work: there is one, the run makes it, and what it says of its steps.
--- Shown: `course-unique`; `run-course`; the steps of a course are each the next one where it was made, there are at most as many as the budget, and
+-- Shown: `course-unique`; `course-settled`, of two budgets; `run-course`; the steps of a course are each the next one where it was made, there are at most as many as the budget, and
 -- before each of them, and at the end unless the goal is reached, the goal wasn't known. Assumes nothing.
 use mathlib.Core.Path.{_≡_, refl, sym, ap₂, _∙_, subst}
 use mathlib.Core.Bool.{Bool, true, false, true≢false, cond, not, _&&_}
 use mathlib.Core.Logic.{_⊎_, inl, inr, _↔_}
 use mathlib.Core.List.{List, [], _∷_, _++_, append-nil, append-assoc, List·Memᴰ, Memᴰ·map, Memᴰ·of-map, Memᴰ·cast}
-use Prim.Native.Nat.{ℕ, zero, suc, _≤_, _<_}
+use Prim.Native.Nat.{ℕ, zero, suc, _+_, _≤_, _<_}
 use native.Mathlib.Omega.{arith}
 use lib.Dec.{eqb}
 use lib.ListN.{length, take}
@@ -39,6 +39,15 @@ module _ {on : Setting} {t : ℕ → Term} {n goal : ℕ} where
   course-budget (Course.stuck k f) = omega arith
   course-budget (Course.stopped k f) = omega arith
   course-budget (Course.more k x c) = let l = course-budget c in omega arith
+
+  -- a course that isn't stopped is that of every budget of at least its steps
+  pub course-enough : {b : ℕ} {es : List ℕ} {ss : List Step} {v : Verdict} (c : ℕ) → Course on t n goal b es ss v → ¬ (v ≡ exhausted) → length ss ≤ c
+      → Course on t n goal c es ss v
+  course-enough c (Course.reached g) p l = Course.reached g
+  course-enough c (Course.stuck k f) p l = Course.stuck k f
+  course-enough c (Course.stopped k f) p l = absurd (p refl)
+  course-enough zero (Course.more k x d) p l = absurd (omega arith)
+  course-enough (suc c) (Course.more k x d) p l = Course.more k x (course-enough c d p (omega arith))
 
   -- before a step the goal isn't known: not at the start if there is a step, and not after a proper prefix
   pub course-before : {b : ℕ} {es : List ℕ} {ss : List Step} {v : Verdict} → Course on t n goal b es ss v
@@ -99,6 +108,12 @@ module _ (e : ℕ → Entry) (n : ℕ) (down : Downward e n) (goal : ℕ) where
       let p : s ≡ r = next-unique e n down es hs on s r x y in
       let (q, z) = course-unique (heads-more e n down es s hs (x .0 .1)) c (subst (λ (a : Step). Course on (termAt e) n goal b (es ++ (a .head ∷ [])) rs w) (sym p) d) in
       (ap₂ (λ (a : Step) (l : List Step). a ∷ l) p q, z)
+
+  -- two budgets: where neither course is stopped, they are one
+  pub course-settled : {on : Setting} {b c : ℕ} {es : List ℕ} {ss rs : List Step} {v w : Verdict} → Heads e n es
+      → Course on (termAt e) n goal b es ss v → Course on (termAt e) n goal c es rs w → ¬ (v ≡ exhausted) → ¬ (w ≡ exhausted) → (ss ≡ rs) × (v ≡ w)
+  course-settled {b = b} {c = c} hs x y p q =
+      course-unique hs (course-enough (b + c) x p (let l = course-budget x in omega arith)) (course-enough (b + c) y q (let l = course-budget y in omega arith))
 
   -- what is known at its end are heads
   pub course-heads : {on : Setting} {b : ℕ} {es : List ℕ} {ss : List Step} {v : Verdict} → Heads e n es → Course on (termAt e) n goal b es ss v → Heads e n (es ++ heads ss)

@@ -30,25 +30,25 @@ use Rattle.verdict.specs.Answer.{outcomeOf, answerOf, missingOf, frontOf
 use Rattle.verdict.specs.Inner.Decide.{Decided}
 use Rattle.verdict.proofs.Laws.Demands.{few-steps, known-read, missing-read, steps-read, run-ends, run-is-course, meets}
 
-module _ (s : List ℕ) (cut budget space : ℕ) where
+module _ (limit : ℕ) (s : List ℕ) (cut budget space : ℕ) where
   row8 : ℕ
   row8 = when (ltb (traceLength s) cut) 8
 
   row9 : ℕ
-  row9 = when (ltb 256 budget) 9
+  row9 = when (ltb limit budget) 9
 
   row10 : ℕ
   row10 = when (ltb space (front + 40 * budget)) 10
 
-  pub refused-sheet : (refusal s ≡ 0 → ⊥) → refusal s ≡ refusalOf s cut budget space
+  pub refused-sheet : (refusal s ≡ 0 → ⊥) → refusal s ≡ refusalOf limit s cut budget space
   unfolding refusalOf row8 row9 row10
   refused-sheet n = sym (orElse-some (refusal s) (orElse row8 (orElse row9 row10)) n)
 
-  past1 : refusal s ≡ 0 → orElse row8 (orElse row9 row10) ≡ refusalOf s cut budget space
+  past1 : refusal s ≡ 0 → orElse row8 (orElse row9 row10) ≡ refusalOf limit s cut budget space
   unfolding refusalOf row8 row9 row10
   past1 p = sym (orElse-none (refusal s) (orElse row8 (orElse row9 row10)) p)
 
-  pub refused-cut : refusal s ≡ 0 → traceLength s < cut → 8 ≡ refusalOf s cut budget space
+  pub refused-cut : refusal s ≡ 0 → traceLength s < cut → 8 ≡ refusalOf limit s cut budget space
   unfolding row8
   refused-cut p h =
       let q : 8 ≡ row8 = when-yes 8 (lt-ltb (traceLength s) cut h) in
@@ -57,33 +57,33 @@ module _ (s : List ℕ) (cut budget space : ℕ) where
       eight : _≡_ {A = ℕ} 8 0 → ⊥
       eight r = omega arith
 
-  past8 : refusal s ≡ 0 → cut ≤ traceLength s → orElse row9 row10 ≡ refusalOf s cut budget space
+  past8 : refusal s ≡ 0 → cut ≤ traceLength s → orElse row9 row10 ≡ refusalOf limit s cut budget space
   unfolding row8
   past8 p h = sym (orElse-none row8 (orElse row9 row10) (sym (when-no 8 (le-ltb (traceLength s) cut h)))) ∙ past1 p
 
-  pub refused-budget : refusal s ≡ 0 → cut ≤ traceLength s → 256 < budget → 9 ≡ refusalOf s cut budget space
+  pub refused-budget : refusal s ≡ 0 → cut ≤ traceLength s → limit < budget → 9 ≡ refusalOf limit s cut budget space
   unfolding row9
   refused-budget p h l =
-      let q : 9 ≡ row9 = when-yes 9 (lt-ltb 256 budget l) in
+      let q : 9 ≡ row9 = when-yes 9 (lt-ltb limit budget l) in
       q ∙ sym (orElse-some row9 row10 (λ z. nine (q ∙ z))) ∙ past8 p h
     where
       nine : _≡_ {A = ℕ} 9 0 → ⊥
       nine r = omega arith
 
-  past9 : refusal s ≡ 0 → cut ≤ traceLength s → budget ≤ 256 → row10 ≡ refusalOf s cut budget space
+  past9 : refusal s ≡ 0 → cut ≤ traceLength s → budget ≤ limit → row10 ≡ refusalOf limit s cut budget space
   unfolding row9
-  past9 p h l = sym (orElse-none row9 row10 (sym (when-no 9 (le-ltb 256 budget l)))) ∙ past8 p h
+  past9 p h l = sym (orElse-none row9 row10 (sym (when-no 9 (le-ltb limit budget l)))) ∙ past8 p h
 
-  pub refused-space : refusal s ≡ 0 → cut ≤ traceLength s → budget ≤ 256 → space < front + 40 * budget → 10 ≡ refusalOf s cut budget space
+  pub refused-space : refusal s ≡ 0 → cut ≤ traceLength s → budget ≤ limit → space < front + 40 * budget → 10 ≡ refusalOf limit s cut budget space
   unfolding row10
   refused-space p h l r = when-yes 10 (lt-ltb space (front + 40 * budget) r) ∙ past9 p h l
 
-  pub accepted : refusal s ≡ 0 → cut ≤ traceLength s → budget ≤ 256 → front + 40 * budget ≤ space → 0 ≡ refusalOf s cut budget space
+  pub accepted : refusal s ≡ 0 → cut ≤ traceLength s → budget ≤ limit → front + 40 * budget ≤ space → 0 ≡ refusalOf limit s cut budget space
   unfolding row10
   accepted p h l r = when-no 10 (le-ltb space (front + 40 * budget) r) ∙ past9 p h l
 
   -- no refusal has a number over 12
-  pub refused-le : refusalOf s cut budget space ≤ 12
+  pub refused-le : refusalOf limit s cut budget space ≤ 12
   unfolding refusalOf
   refused-le =
       either (refusal s) _ (⊎-elim (λ h. omega (arith, h)) (λ h. omega (arith, h)) (refusal-named s))
@@ -96,7 +96,7 @@ module _ (s : List ℕ) (cut budget space : ℕ) where
       either = orElse-has (λ n. n ≤ 12) (omega arith)
 
   -- what a call that isn't refused was given
-  module _ (ok : refusalOf s cut budget space ≡ 0) where
+  module _ (ok : refusalOf limit s cut budget space ≡ 0) where
     pub ok-sheet : refusal s ≡ 0
     unfolding refusalOf
     ok-sheet = orElse-zero-left (refusal s) _ ok
@@ -112,27 +112,27 @@ module _ (s : List ℕ) (cut budget space : ℕ) where
     rest8 : orElse row9 row10 ≡ 0
     rest8 = orElse-zero-right row8 _ rest1
 
-    pub ok-budget : budget ≤ 256
+    pub ok-budget : budget ≤ limit
     unfolding row9
-    ok-budget = ltb-false 256 budget (when-zero _ 8 (orElse-zero-left row9 _ rest8))
+    ok-budget = ltb-false limit budget (when-zero _ 8 (orElse-zero-left row9 _ rest8))
 
     pub ok-space : front + 40 * budget ≤ space
     unfolding row10
     ok-space = ltb-false space (front + 40 * budget) (when-zero _ 9 (orElse-zero-right row9 _ rest8))
 
 -- a refused call
-pub refused-answer : (on : Setting) (s : List ℕ) (cut budget space : ℕ) → (refusalOf s cut budget space ≡ 0 → ⊥) → refusalOf s cut budget space ≡ answerOf on s cut budget space
+pub refused-answer : (on : Setting) (limit : ℕ) (s : List ℕ) (cut budget space : ℕ) → (refusalOf limit s cut budget space ≡ 0 → ⊥) → refusalOf limit s cut budget space ≡ answerOf on limit s cut budget space
 unfolding answerOf
-refused-answer on s cut budget space n =
+refused-answer on limit s cut budget space n =
     sym
     (ap
     (λ (b : Bool).
-    cond b (verdictCode (outcomeOf on s cut budget .verdict) + length (outcomeOf on s cut budget .steps)) (refusalOf s cut budget space))
-    (ne-eqb (refusalOf s cut budget space) 0 n))
+    cond b (verdictCode (outcomeOf on s cut budget .verdict) + length (outcomeOf on s cut budget .steps)) (refusalOf limit s cut budget space))
+    (ne-eqb (refusalOf limit s cut budget space) 0 n))
 
-pub refused-buffer : (on : Setting) (s : List ℕ) (cut budget : ℕ) (old : List ℕ) → (refusalOf s cut budget (length old) ≡ 0 → ⊥) → old ≡ bufferOf on s cut budget old
+pub refused-buffer : (on : Setting) (limit : ℕ) (s : List ℕ) (cut budget : ℕ) (old : List ℕ) → (refusalOf limit s cut budget (length old) ≡ 0 → ⊥) → old ≡ bufferOf on limit s cut budget old
 unfolding bufferOf
-refused-buffer on s cut budget old n =
+refused-buffer on limit s cut budget old n =
     sym
     (ap
     (λ (b : Bool).
@@ -140,94 +140,119 @@ refused-buffer on s cut budget old n =
     (frontOf on s cut budget
     ++ (stepsBytes (outcomeOf on s cut budget .steps) ++ drop (front + 40 * length (outcomeOf on s cut budget .steps)) old))
     old)
-    (ne-eqb (refusalOf s cut budget (length old)) 0 n))
+    (ne-eqb (refusalOf limit s cut budget (length old)) 0 n))
 
 -- a call that isn't refused, by the definitions: its answer, its buffer, and what is read back from that
-module _ (on : Setting) (s : List ℕ) (cut budget : ℕ) (old : List ℕ) (ok : refusalOf s cut budget (length old) ≡ 0) where
+module _ (on : Setting) (limit : ℕ) (s : List ℕ) (cut budget : ℕ) (old : List ℕ) (ok : refusalOf limit s cut budget (length old) ≡ 0) where
   abbrev o : Outcome
   o = outcomeOf on s cut budget
 
   abbrev gained : ℕ
   gained = knowledge (entryAt s) (o .learnt) .known
 
-  pub accepted-answer : answerOf on s cut budget (length old) ≡ verdictCode (o .verdict) + length (o .steps)
+  pub accepted-answer : answerOf on limit s cut budget (length old) ≡ verdictCode (o .verdict) + length (o .steps)
   unfolding answerOf
   accepted-answer =
-      ap (λ (b : Bool). cond b (verdictCode (o .verdict) + length (o .steps)) (refusalOf s cut budget (length old)))
-      (eq-eqb (refusalOf s cut budget (length old)) 0 ok)
+      ap (λ (b : Bool). cond b (verdictCode (o .verdict) + length (o .steps)) (refusalOf limit s cut budget (length old)))
+      (eq-eqb (refusalOf limit s cut budget (length old)) 0 ok)
 
-  pub accepted-buffer : bufferOf on s cut budget old ≡ frontOf on s cut budget ++ (stepsBytes (o .steps) ++ drop (front + 40 * length (o .steps)) old)
+  pub accepted-buffer : bufferOf on limit s cut budget old ≡ frontOf on s cut budget ++ (stepsBytes (o .steps) ++ drop (front + 40 * length (o .steps)) old)
   unfolding bufferOf
   accepted-buffer =
       ap (λ (b : Bool). cond b (frontOf on s cut budget ++ (stepsBytes (o .steps) ++ drop (front + 40 * length (o .steps)) old)) old)
-      (eq-eqb (refusalOf s cut budget (length old)) 0 ok)
+      (eq-eqb (refusalOf limit s cut budget (length old)) 0 ok)
 
   pub accepted-few : length (o .steps) ≤ 256
-  accepted-few = few-steps on s cut budget (ok-sheet s cut budget (length old) ok) (ok-cut s cut budget (length old) ok)
+  accepted-few = few-steps on s cut budget (ok-sheet limit s cut budget (length old) ok) (ok-cut limit s cut budget (length old) ok)
 
-  pub accepted-known : gainedIn (bufferOf on s cut budget old) ≡ gained
+  pub accepted-known : gainedIn (bufferOf on limit s cut budget old) ≡ gained
   accepted-known =
       ap gainedIn accepted-buffer
-      ∙ known-read on s cut budget (ok-sheet s cut budget (length old) ok) (ok-cut s cut budget (length old) ok) (stepsBytes (o .steps) ++ drop (front + 40 * length (o .steps)) old)
+      ∙ known-read on s cut budget (ok-sheet limit s cut budget (length old) ok) (ok-cut limit s cut budget (length old) ok) (stepsBytes (o .steps) ++ drop (front + 40 * length (o .steps)) old)
 
-  pub accepted-missing : (usedIn (bufferOf on s cut budget old) ≡ missingOf on s cut budget .used) × (remainderIn (bufferOf on s cut budget old) ≡ missingOf on s cut budget .remainder)
+  pub accepted-missing : (usedIn (bufferOf on limit s cut budget old) ≡ missingOf on s cut budget .used) × (remainderIn (bufferOf on limit s cut budget old) ≡ missingOf on s cut budget .remainder)
   accepted-missing =
-      let (used, remainder) = missing-read on s cut budget (ok-sheet s cut budget (length old) ok) (ok-cut s cut budget (length old) ok) (stepsBytes (o .steps) ++ drop (front + 40 * length (o .steps)) old) in
+      let (used, remainder) = missing-read on s cut budget (ok-sheet limit s cut budget (length old) ok) (ok-cut limit s cut budget (length old) ok) (stepsBytes (o .steps) ++ drop (front + 40 * length (o .steps)) old) in
       (ap usedIn accepted-buffer ∙ used, ap remainderIn accepted-buffer ∙ remainder)
 
-  pub accepted-steps : stepsIn (bufferOf on s cut budget old) (length (o .steps)) ≡ o .steps
+  pub accepted-steps : stepsIn (bufferOf on limit s cut budget old) (length (o .steps)) ≡ o .steps
   accepted-steps =
       ap (λ (b : List ℕ). stepsIn b (length (o .steps))) accepted-buffer
-      ∙ steps-read on s cut budget (ok-sheet s cut budget (length old) ok) (ok-cut s cut budget (length old) ok) (drop (front + 40 * length (o .steps)) old)
+      ∙ steps-read on s cut budget (ok-sheet limit s cut budget (length old) ok) (ok-cut limit s cut budget (length old) ok) (drop (front + 40 * length (o .steps)) old)
 
-  pub accepted-meets : Meets on s cut budget old (bufferOf on s cut budget old) (answerOf on s cut budget (length old))
+  pub accepted-meets : Meets on s cut budget old (bufferOf on limit s cut budget old) (answerOf on limit s cut budget (length old))
   accepted-meets =
-      subst (λ (a : ℕ). Meets on s cut budget old (bufferOf on s cut budget old) a) (sym accepted-answer)
+      subst (λ (a : ℕ). Meets on s cut budget old (bufferOf on limit s cut budget old) a) (sym accepted-answer)
       (subst (λ (b : List ℕ). Meets on s cut budget old b (verdictCode (o .verdict) + length (o .steps))) (sym accepted-buffer)
-      (meets on s cut budget (ok-sheet s cut budget (length old) ok) (ok-cut s cut budget (length old) ok) old))
+      (meets on s cut budget (ok-sheet limit s cut budget (length old) ok) (ok-cut limit s cut budget (length old) ok) old))
 
   pub accepted-ends : countOf s ≤ budget → ¬ (o .verdict ≡ exhausted)
-  accepted-ends = run-ends on s cut budget (ok-sheet s cut budget (length old) ok) (ok-cut s cut budget (length old) ok)
+  accepted-ends = run-ends on s cut budget (ok-sheet limit s cut budget (length old) ok) (ok-cut limit s cut budget (length old) ok)
 
 -- a call that was decided: its answer and its buffer
-pub answered-few : (on : Setting) (s : List ℕ) (cut budget : ℕ) (out out′ : List ℕ) (r : Ended) → Decided on s cut budget out out′ r → refusalOf s cut budget (length out) ≡ 0 → r .made ≤ 256
-answered-few on s cut budget out out′ r d ok = le-trans (le-of-eq (d .count)) (accepted-few on s cut budget out ok)
+pub answered-few : (on : Setting) (limit : ℕ) (s : List ℕ) (cut budget : ℕ) (out out′ : List ℕ) (r : Ended) → Decided on s cut budget out out′ r → refusalOf limit s cut budget (length out) ≡ 0 → r .made ≤ 256
+answered-few on limit s cut budget out out′ r d ok = le-trans (le-of-eq (d .count)) (accepted-few on limit s cut budget out ok)
 
-module _ (on : Setting) (s : List ℕ) (cut budget : ℕ) (out out′ : List ℕ) (r : Ended) (d : Decided on s cut budget out out′ r) (ok : refusalOf s cut budget (length out) ≡ 0) (v : program.Verdict) (is : r .verdict ≡ v) where
+module _ (on : Setting) (limit : ℕ) (s : List ℕ) (cut budget : ℕ) (out out′ : List ℕ) (r : Ended) (d : Decided on s cut budget out out′ r) (ok : refusalOf limit s cut budget (length out) ≡ 0) (v : program.Verdict) (is : r .verdict ≡ v) where
   number-is : verdictCode (verdictOf v) + r .made ≡ verdictCode (outcomeOf on s cut budget .verdict) + length (outcomeOf on s cut budget .steps)
   number-is = ap₂ (λ (w : Verdict) (k : ℕ). verdictCode w + k) (ap verdictOf (sym is) ∙ d .verdict) (d .count)
 
-  pub answered : verdictCode (verdictOf v) + r .made ≡ answerOf on s cut budget (length out)
-  answered = number-is ∙ sym (accepted-answer on s cut budget out ok)
+  pub answered : verdictCode (verdictOf v) + r .made ≡ answerOf on limit s cut budget (length out)
+  answered = number-is ∙ sym (accepted-answer on limit s cut budget out ok)
 
-  pub answered-buffer : out′ ≡ bufferOf on s cut budget out
-  answered-buffer = d .bytes ∙ sym (accepted-buffer on s cut budget out ok)
+  pub answered-buffer : out′ ≡ bufferOf on limit s cut budget out
+  answered-buffer = d .bytes ∙ sym (accepted-buffer on limit s cut budget out ok)
 
 -- what the equations give is as demanded, refused or not
-pub equations-demand : (on : Setting) (s : List ℕ) (cut budget : ℕ) (old out : List ℕ) (answer : ℕ) → answer ≡ answerOf on s cut budget (length old) → out ≡ bufferOf on s cut budget old → Demanded on s cut budget old out answer
-equations-demand on s cut budget old out answer p q =
+pub equations-demand : (on : Setting) (limit : ℕ) (s : List ℕ) (cut budget : ℕ) (old out : List ℕ) (answer : ℕ) → answer ≡ answerOf on limit s cut budget (length old) → out ≡ bufferOf on limit s cut budget old → Demanded on limit s cut budget old out answer
+equations-demand on limit s cut budget old out answer p q =
     record {
-      refused = λ n. (p ∙ sym (refused-answer on s cut budget (length old) n), q ∙ sym (refused-buffer on s cut budget old n));
+      refused = λ n. (p ∙ sym (refused-answer on limit s cut budget (length old) n), q ∙ sym (refused-buffer on limit s cut budget old n));
       judged = λ ok.
           subst (λ (a : ℕ). Meets on s cut budget old out a) (sym p)
-          (subst (λ (b : List ℕ). Meets on s cut budget old b (answerOf on s cut budget (length old))) (sym q) (accepted-meets on s cut budget old ok));
+          (subst (λ (b : List ℕ). Meets on s cut budget old b (answerOf on limit s cut budget (length old))) (sym q) (accepted-meets on limit s cut budget old ok));
     }
 
+-- document 02, E7: "Otherwise its answer and bytes are the full call's at the same budget". Two limits that allow the budget: the same refusal or none, the
+-- same answer and the same bytes
+module _ (limit other : ℕ) (s : List ℕ) (cut budget : ℕ) (low : budget ≤ limit) (low′ : budget ≤ other) where
+  pub refusal-limits : (space : ℕ) → refusalOf limit s cut budget space ≡ refusalOf other s cut budget space
+  unfolding refusalOf
+  refusal-limits space =
+      ap (λ (t : Bool). orElse (refusal s) (orElse (when (ltb (traceLength s) cut) 8) (orElse (when t 9) (when (ltb space (front + 40 * budget)) 10))))
+      (le-ltb limit budget low ∙ sym (le-ltb other budget low′))
+
+  pub answer-limits : (on : Setting) (space : ℕ) → answerOf on limit s cut budget space ≡ answerOf on other s cut budget space
+  unfolding answerOf
+  answer-limits on space =
+      ap (λ (r : ℕ). cond (eqb r 0) (verdictCode (outcomeOf on s cut budget .verdict) + length (outcomeOf on s cut budget .steps)) r) (refusal-limits space)
+
+  pub buffer-limits : (on : Setting) (old : List ℕ) → bufferOf on limit s cut budget old ≡ bufferOf on other s cut budget old
+  unfolding bufferOf
+  buffer-limits on old =
+      ap
+      (λ (r : ℕ).
+      cond (eqb r 0)
+      (frontOf on s cut budget
+      ++ (stepsBytes (outcomeOf on s cut budget .steps) ++ drop (front + 40 * length (outcomeOf on s cut budget .steps)) old))
+      old)
+      (refusal-limits (length old))
+
 -- a buffer that is longer than the budget needs: the same answer, and the bytes past the need as they were
-module _ (on : Setting) (s : List ℕ) (cut budget : ℕ) where
-  refusal-enough : (a b : ℕ) → front + 40 * budget ≤ a → front + 40 * budget ≤ b → refusalOf s cut budget a ≡ refusalOf s cut budget b
+module _ (on : Setting) (limit : ℕ) (s : List ℕ) (cut budget : ℕ) where
+  refusal-enough : (a b : ℕ) → front + 40 * budget ≤ a → front + 40 * budget ≤ b → refusalOf limit s cut budget a ≡ refusalOf limit s cut budget b
   unfolding refusalOf
   refusal-enough a b ha hb =
-      ap (λ (t : Bool). orElse (refusal s) (orElse (when (ltb (traceLength s) cut) 8) (orElse (when (ltb 256 budget) 9) (when t 10))))
+      ap (λ (t : Bool). orElse (refusal s) (orElse (when (ltb (traceLength s) cut) 8) (orElse (when (ltb limit budget) 9) (when t 10))))
       (le-ltb a (front + 40 * budget) ha ∙ sym (le-ltb b (front + 40 * budget) hb))
 
-  pub answer-enough : (a b : ℕ) → front + 40 * budget ≤ a → front + 40 * budget ≤ b → answerOf on s cut budget a ≡ answerOf on s cut budget b
+  pub answer-enough : (a b : ℕ) → front + 40 * budget ≤ a → front + 40 * budget ≤ b → answerOf on limit s cut budget a ≡ answerOf on limit s cut budget b
   unfolding answerOf
   answer-enough a b ha hb =
       ap (λ (r : ℕ). cond (eqb r 0) (verdictCode (outcomeOf on s cut budget .verdict) + length (outcomeOf on s cut budget .steps)) r) (refusal-enough a b ha hb)
 
-  pub buffer-enough : (old : List ℕ) → front + 40 * budget ≤ length old → bufferOf on s cut budget (take (front + 40 * budget) old) ++ drop (front + 40 * budget) old ≡ bufferOf on s cut budget old
-  buffer-enough old h = by-cases (ℕ-discrete (refusalOf s cut budget (length old)) 0) judged refused
+  pub buffer-enough : (old : List ℕ) → front + 40 * budget ≤ length old → bufferOf on limit s cut budget (take (front + 40 * budget) old) ++ drop (front + 40 * budget) old ≡ bufferOf on limit s cut budget old
+  buffer-enough old h = by-cases (ℕ-discrete (refusalOf limit s cut budget (length old)) 0) judged refused
     where
       need : ℕ
       need = front + 40 * budget
@@ -235,23 +260,23 @@ module _ (on : Setting) (s : List ℕ) (cut budget : ℕ) where
       part : List ℕ
       part = take need old
 
-      same : refusalOf s cut budget (length part) ≡ refusalOf s cut budget (length old)
+      same : refusalOf limit s cut budget (length part) ≡ refusalOf limit s cut budget (length old)
       same = refusal-enough (length part) (length old) (le-of-eq (sym (length-take-le need old h))) h
 
-      refused : (refusalOf s cut budget (length old) ≡ 0 → ⊥) → bufferOf on s cut budget part ++ drop need old ≡ bufferOf on s cut budget old
+      refused : (refusalOf limit s cut budget (length old) ≡ 0 → ⊥) → bufferOf on limit s cut budget part ++ drop need old ≡ bufferOf on limit s cut budget old
       refused n =
-          ap (λ (b : List ℕ). b ++ drop need old) (sym (refused-buffer on s cut budget part (λ p. n (sym same ∙ p))))
-          ∙ take-append-drop need old ∙ refused-buffer on s cut budget old n
+          ap (λ (b : List ℕ). b ++ drop need old) (sym (refused-buffer on limit s cut budget part (λ p. n (sym same ∙ p))))
+          ∙ take-append-drop need old ∙ refused-buffer on limit s cut budget old n
 
-      judged : refusalOf s cut budget (length old) ≡ 0 → bufferOf on s cut budget part ++ drop need old ≡ bufferOf on s cut budget old
+      judged : refusalOf limit s cut budget (length old) ≡ 0 → bufferOf on limit s cut budget part ++ drop need old ≡ bufferOf on limit s cut budget old
       judged ok =
           let o : Outcome = outcomeOf on s cut budget in
           let first : List ℕ = frontOf on s cut budget in
-          let few : length (o .steps) ≤ budget = course-budget (run-is-course on s cut budget (ok-sheet s cut budget (length old) ok) (ok-cut s cut budget (length old) ok)) in
+          let few : length (o .steps) ≤ budget = course-budget (run-is-course on s cut budget (ok-sheet limit s cut budget (length old) ok) (ok-cut limit s cut budget (length old) ok)) in
           let m : ℕ = front + 40 * length (o .steps) in
-          ap (λ (b : List ℕ). b ++ drop need old) (accepted-buffer on s cut budget part (same ∙ ok))
+          ap (λ (b : List ℕ). b ++ drop need old) (accepted-buffer on limit s cut budget part (same ∙ ok))
           ∙ append-assoc first (stepsBytes (o .steps) ++ drop m part) (drop need old)
           ∙ ap (λ (b : List ℕ). first ++ b)
           (append-assoc (stepsBytes (o .steps)) (drop m part) (drop need old)
           ∙ ap (λ (b : List ℕ). stepsBytes (o .steps) ++ b) (sym (drop-append-le m part (drop need old) (omega (arith, length-take-le need old h))) ∙ ap (drop m) (take-append-drop need old)))
-          ∙ sym (accepted-buffer on s cut budget old ok)
+          ∙ sym (accepted-buffer on limit s cut budget old ok)

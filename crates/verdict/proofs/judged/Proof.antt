@@ -5,6 +5,7 @@ use borrow.Author.Needs.{needs}
 use denote.Ref.{now}
 use Rattle.deduction.specs.Setting.{switches}
 use Rattle.derive.specs.declared.run.Verdict.the-variants.{Derivable, Underivable, Exhausted}
+use Rattle.verdict.specs.Refused.{fullLimit}
 use Rattle.verdict.proofs.Laws.Answered.{accepted, answered, answered-few, answered-buffer}
 use Rattle.verdict.proofs.judged.Statement.{statement}
 use Rattle.verdict.proofs.judged.Tie as tie
@@ -29,8 +30,8 @@ returns c =
     let b = c .before .before .before .before .before .before .before .before in
     let s = b .args in
     let d = c .before .before .before .before .decide in
-    let ok = sym (accepted (now (s .s)) (s .cut) (s .budget) (length (now (s .out))) (b .pre .0) (b .pre .1) (b .pre .2) (b .pre .3)) in
-    (answered (switches (s .rules)) (now (s .s)) (s .cut) (s .budget) (now (s .out)) (d .last .1 .1 .1 .1 .0) (d .result) (d .ensures) ok Derivable (c .enum-told .given .1), (answered-few (switches (s .rules)) (now (s .s)) (s .cut) (s .budget) (now (s .out)) (d .last .1 .1 .1 .1 .0) (d .result) (d .ensures) ok, answered-buffer (switches (s .rules)) (now (s .s)) (s .cut) (s .budget) (now (s .out)) (d .last .1 .1 .1 .1 .0) (d .result) (d .ensures) ok Derivable (c .enum-told .given .1)))
+    let ok = sym (accepted fullLimit (now (s .s)) (s .cut) (s .budget) (length (now (s .out))) (b .pre .0) (b .pre .1) (b .pre .2) (b .pre .3)) in
+    (answered (switches (s .rules)) fullLimit (now (s .s)) (s .cut) (s .budget) (now (s .out)) (d .last .1 .1 .1 .1 .0) (d .result) (d .ensures) ok Derivable (c .enum-told .given .1), (answered-few (switches (s .rules)) fullLimit (now (s .s)) (s .cut) (s .budget) (now (s .out)) (d .last .1 .1 .1 .1 .0) (d .result) (d .ensures) ok, answered-buffer (switches (s .rules)) fullLimit (now (s .s)) (s .cut) (s .budget) (now (s .out)) (d .last .1 .1 .1 .1 .0) (d .result) (d .ensures) ok Derivable (c .enum-told .given .1)))
 
 same-length-2 : tie.Need-same-length-2
 same-length-2 c = search needs
@@ -40,8 +41,8 @@ returns-2 c =
     let b = c .before .before .before .before .before .before .before .before in
     let s = b .args in
     let d = c .before .before .before .before .decide in
-    let ok = sym (accepted (now (s .s)) (s .cut) (s .budget) (length (now (s .out))) (b .pre .0) (b .pre .1) (b .pre .2) (b .pre .3)) in
-    (answered (switches (s .rules)) (now (s .s)) (s .cut) (s .budget) (now (s .out)) (d .last .1 .1 .1 .1 .0) (d .result) (d .ensures) ok Underivable (c .enum-told2 .given .1), (answered-few (switches (s .rules)) (now (s .s)) (s .cut) (s .budget) (now (s .out)) (d .last .1 .1 .1 .1 .0) (d .result) (d .ensures) ok, answered-buffer (switches (s .rules)) (now (s .s)) (s .cut) (s .budget) (now (s .out)) (d .last .1 .1 .1 .1 .0) (d .result) (d .ensures) ok Underivable (c .enum-told2 .given .1)))
+    let ok = sym (accepted fullLimit (now (s .s)) (s .cut) (s .budget) (length (now (s .out))) (b .pre .0) (b .pre .1) (b .pre .2) (b .pre .3)) in
+    (answered (switches (s .rules)) fullLimit (now (s .s)) (s .cut) (s .budget) (now (s .out)) (d .last .1 .1 .1 .1 .0) (d .result) (d .ensures) ok Underivable (c .enum-told2 .given .1), (answered-few (switches (s .rules)) fullLimit (now (s .s)) (s .cut) (s .budget) (now (s .out)) (d .last .1 .1 .1 .1 .0) (d .result) (d .ensures) ok, answered-buffer (switches (s .rules)) fullLimit (now (s .s)) (s .cut) (s .budget) (now (s .out)) (d .last .1 .1 .1 .1 .0) (d .result) (d .ensures) ok Underivable (c .enum-told2 .given .1)))
 
 same-length-3 : tie.Need-same-length-3
 same-length-3 c = search needs
@@ -51,8 +52,8 @@ returns-3 c =
     let b = c .before .before .before .before .before .before .before .before in
     let s = b .args in
     let d = c .before .before .before .before .decide in
-    let ok = sym (accepted (now (s .s)) (s .cut) (s .budget) (length (now (s .out))) (b .pre .0) (b .pre .1) (b .pre .2) (b .pre .3)) in
-    (answered (switches (s .rules)) (now (s .s)) (s .cut) (s .budget) (now (s .out)) (d .last .1 .1 .1 .1 .0) (d .result) (d .ensures) ok Exhausted (c .enum-told3 .given .1), (answered-few (switches (s .rules)) (now (s .s)) (s .cut) (s .budget) (now (s .out)) (d .last .1 .1 .1 .1 .0) (d .result) (d .ensures) ok, answered-buffer (switches (s .rules)) (now (s .s)) (s .cut) (s .budget) (now (s .out)) (d .last .1 .1 .1 .1 .0) (d .result) (d .ensures) ok Exhausted (c .enum-told3 .given .1)))
+    let ok = sym (accepted fullLimit (now (s .s)) (s .cut) (s .budget) (length (now (s .out))) (b .pre .0) (b .pre .1) (b .pre .2) (b .pre .3)) in
+    (answered (switches (s .rules)) fullLimit (now (s .s)) (s .cut) (s .budget) (now (s .out)) (d .last .1 .1 .1 .1 .0) (d .result) (d .ensures) ok Exhausted (c .enum-told3 .given .1), (answered-few (switches (s .rules)) fullLimit (now (s .s)) (s .cut) (s .budget) (now (s .out)) (d .last .1 .1 .1 .1 .0) (d .result) (d .ensures) ok, answered-buffer (switches (s .rules)) fullLimit (now (s .s)) (s .cut) (s .budget) (now (s .out)) (d .last .1 .1 .1 .1 .0) (d .result) (d .ensures) ok Exhausted (c .enum-told3 .given .1)))
 
 pub judged-spec : {M : Type 1} → statement M
 judged-spec =

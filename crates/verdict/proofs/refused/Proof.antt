@@ -19,7 +19,7 @@ code-requires c κs = search needs
 
 returns : tie.Need-returns
 returns c = let s = c .before .before .before .before .args in
-    c .before .before .validate .ensures ∙ refused-sheet (now (s .sheet)) (s .cut) (s .budget) (s .space) (λ z. c .if1 .taken (c .before .code .ensures ∙ c .before .before .validate .ensures ∙ z))
+    c .before .before .validate .ensures ∙ refused-sheet (s .limit) (now (s .sheet)) (s .cut) (s .budget) (s .space) (λ z. c .if1 .taken (c .before .code .ensures ∙ c .before .before .validate .ensures ∙ z))
 
 trace-len-requires : tie.Need-trace-len-requires
 trace-len-requires c κs = search needs
@@ -29,11 +29,11 @@ cast-if2 c = search needs
 
 returns-2 : tie.Need-returns-2
 returns-2 c = let s = c .before .before .before .before .before .before .args in
-    refused-cut (now (s .sheet)) (s .cut) (s .budget) (s .space) (fine (c .before .before)) (omega (arith, c .before .trace-len .ensures, c .if2 .taken))
+    refused-cut (s .limit) (now (s .sheet)) (s .cut) (s .budget) (s .space) (fine (c .before .before)) (omega (arith, c .before .trace-len .ensures, c .if2 .taken))
 
 returns-3 : tie.Need-returns-3
 returns-3 c = let s = c .before .before .before .before .before .before .before .args in
-    refused-budget (now (s .sheet)) (s .cut) (s .budget) (s .space) (fine (c .before .before .before)) (omega (arith, c .before .before .trace-len .ensures, c .before .if2 .left)) (c .if3 .taken)
+    refused-budget (s .limit) (now (s .sheet)) (s .cut) (s .budget) (s .space) (fine (c .before .before .before)) (omega (arith, c .before .before .trace-len .ensures, c .before .if2 .left)) (c .if3 .taken)
 
 mul-if4 : tie.Need-mul-if4
 mul-if4 c = search needs
@@ -43,11 +43,11 @@ add-if4 c = search needs
 
 returns-4 : tie.Need-returns-4
 returns-4 c = let s = c .before .before .before .before .before .before .before .before .args in
-    refused-space (now (s .sheet)) (s .cut) (s .budget) (s .space) (fine (c .before .before .before .before)) (omega (arith, c .before .before .before .trace-len .ensures, c .before .before .if2 .left)) (omega (arith, c .before .if3 .left)) (omega arith)
+    refused-space (s .limit) (now (s .sheet)) (s .cut) (s .budget) (s .space) (fine (c .before .before .before .before)) (omega (arith, c .before .before .before .trace-len .ensures, c .before .before .if2 .left)) (omega (arith, c .before .if3 .left)) (omega arith)
 
 returns-5 : tie.Need-returns-5
 returns-5 c = let s = c .before .before .before .before .before .before .before .before .args in
-    accepted (now (s .sheet)) (s .cut) (s .budget) (s .space) (fine (c .before .before .before .before)) (omega (arith, c .before .before .before .trace-len .ensures, c .before .before .if2 .left)) (omega (arith, c .before .if3 .left)) (omega arith)
+    accepted (s .limit) (now (s .sheet)) (s .cut) (s .budget) (s .space) (fine (c .before .before .before .before)) (omega (arith, c .before .before .before .trace-len .ensures, c .before .before .if2 .left)) (omega (arith, c .before .if3 .left)) (omega arith)
 
 pub refused-spec : {M : Type 1} → statement M
 refused-spec =

@@ -5,7 +5,9 @@ use borrow.Author.Needs.{needs}
 use denote.Ref.{now}
 use Rattle.deduction.specs.Setting.{Setting}
 use Rattle.deduction.proofs.Settings.{switches-every}
+use Rattle.verdict.specs.Refused.{fullLimit}
 use Rattle.verdict.specs.Demands.{Demanded}
+use Rattle.verdict.specs.Agrees.{Agrees}
 use Rattle.verdict.specs.Answer.{answerOf, bufferOf}
 use Rattle.verdict.specs.Code.{numberOf}
 use Rattle.verdict.proofs.verdict.Statement.{statement}
@@ -21,12 +23,12 @@ returns : tie.Need-returns
 returns c = let a = c .before .before in
     let s = a .before .before .before .before .args in
     let v = a .limited .ensures in (
-      v .0 ∙ ap (λ (on : Setting). answerOf on (now (s .sheet)) (s .cut) (s .budget) (length (now (s .out)))) switches-every,
+      v .0 ∙ ap (λ (on : Setting). answerOf on fullLimit (now (s .sheet)) (s .cut) (s .budget) (length (now (s .out)))) switches-every,
       (
         v .1 .0,
         (
-          v .1 .1 .0 ∙ ap (λ (on : Setting). bufferOf on (now (s .sheet)) (s .cut) (s .budget) (now (s .out))) switches-every,
-          subst (λ (on : Setting). Demanded on (now (s .sheet)) (s .cut) (s .budget) (now (s .out)) (a .limited .last .1 .1 .1 .1 .0) (numberOf (a .limited .result))) switches-every (v .1 .1 .1),
+          v .1 .1 .0 ∙ ap (λ (on : Setting). bufferOf on fullLimit (now (s .sheet)) (s .cut) (s .budget) (now (s .out))) switches-every,
+          (subst (λ (on : Setting). Demanded on fullLimit (now (s .sheet)) (s .cut) (s .budget) (now (s .out)) (a .limited .last .1 .1 .1 .1 .0) (numberOf (a .limited .result))) switches-every (v .1 .1 .1 .0), subst (λ (on : Setting). Agrees on (now (s .sheet)) (s .cut) (numberOf (a .limited .result))) switches-every (v .1 .1 .1 .1)),
         ),
       ),
     )

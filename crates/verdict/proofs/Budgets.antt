@@ -1,0 +1,40 @@
+-- Two calls on one sheet, at one cut and by the same rules, with any two limits, budgets and buffers (document 02, E7).
+-- Shown, from the demands alone: `settled-same`, two answers that are neither refused nor stopped are the same number, with the same rungs, gained set, used
+-- set and remainder; `demands-agree`, so each agrees with every other. By the law of two budgets, `course-settled`. Assumes nothing.
+use mathlib.Core.Path.{_≡_, ap, _∙_}
+use mathlib.Core.List.{List}
+use Prim.Native.Nat.{ℕ, _+_, _≤_}
+use native.Mathlib.Omega.{arith}
+use lib.ListN.{length}
+use Rattle.deduction.specs.Setting.{Setting}
+use Rattle.deduction.specs.Course.{Verdict, exhausted}
+use Rattle.deduction.proofs.Steps.Course.{course-settled}
+use Rattle.dag.specs.Sheet.{countOf, goalOf, traceLength}
+use Rattle.dag.specs.Record.{entryAt}
+use Rattle.dag.specs.Refusal.{refusal}
+use Rattle.dag.proofs.Laws.Good.{good}
+use Rattle.verdict.specs.Buffer.{gainedIn, usedIn, remainderIn, stepsIn}
+use Rattle.verdict.specs.Demands.{verdictCode, Meets, Demanded}
+use Rattle.verdict.specs.Agrees.{Settled, Agrees}
+use Rattle.verdict.proofs.Laws.Answered.{ok-sheet, ok-cut}
+use Rattle.verdict.proofs.Laws.Demands.{start-is-heads}
+use Rattle.verdict.proofs.Reading.{answer-judged}
+use Rattle.verdict.proofs.Unique.{same-work}
+
+-- a settled answer isn't that of a stopped call
+settled-ends : {on : Setting} {s : List ℕ} {cut budget : ℕ} {old out : List ℕ} {answer : ℕ} (m : Meets on s cut budget old out answer) → Settled answer → ¬ (m .verdict ≡ exhausted)
+settled-ends m (l, h) p = omega (arith, m .coded ∙ ap (λ (v : Verdict). verdictCode v + m .count) p)
+
+pub settled-same : {on : Setting} {s : List ℕ} {cut b c : ℕ} {old out old′ out′ : List ℕ} {answer answer′ : ℕ} → refusal s ≡ 0 → cut ≤ traceLength s
+    → (m : Meets on s cut b old out answer) (m′ : Meets on s cut c old′ out′ answer′) → Settled answer → Settled answer′
+    → (answer ≡ answer′) × (stepsIn out (m .count) ≡ stepsIn out′ (m′ .count)) × (gainedIn out ≡ gainedIn out′) × (usedIn out ≡ usedIn out′) × (remainderIn out ≡ remainderIn out′)
+settled-same {on} {s} {cut} {b} ok within m m′ a a′ =
+    let (steps, verdicts) = course-settled (entryAt s) (countOf s) (good s ok .downward) (goalOf s) (start-is-heads on s cut b ok within) (m .course) (m′ .course) (settled-ends m a) (settled-ends m′ a′) in
+    same-work on s cut b ok within m m′ steps verdicts
+
+-- "its reached and out of reach agree with the full call at any budget where that is neither refused nor stopped"
+pub demands-agree : {on : Setting} {limit : ℕ} {s : List ℕ} {cut budget : ℕ} {old out : List ℕ} {answer : ℕ} → Demanded on limit s cut budget old out answer → Agrees on s cut answer
+demands-agree {limit = l} {s} {cut} {budget = b} {old = o} d limit budget old out other d′ a a′ =
+    let j = answer-judged d (omega (arith, a .0)) in
+    let j′ = answer-judged d′ (omega (arith, a′ .0)) in
+    settled-same (ok-sheet l s cut b (length o) j) (ok-cut l s cut b (length o) j) (d .judged j) (d′ .judged j′) a a′ .0
