@@ -21,7 +21,7 @@ mod records;
 use calls::verdict;
 use failures::Failures;
 use larger::Larger;
-use reading::{add, all_sums, expected, highest, members, missing_part, read, replay, set_bytes, standard, work, Answer, Set, Term, EVERY_RULE};
+use reading::{add, all_sums, expected, highest, members, missing_part, read, replay, set_bytes, standard, work, Answer, Set, Term, EVERY_RULE, FULL};
 use sheets::{damage, random_entries, sheet, Entry, Random, ATOMS, FRONT};
 
 // The length of a buffer for 256 rungs.
@@ -47,7 +47,7 @@ impl Tally {
         let pattern = |i: usize| (i * 37 + 11) as u8;
         let mut area: Vec<u8> = (0..length + 32).map(pattern).collect();
         let got = verdict(s, cut, budget, &mut area[16..16 + length]);
-        let (number, buffer) = expected(s, cut, budget, &(16..16 + length).map(pattern).collect::<Vec<u8>>());
+        let (number, buffer) = expected(FULL, s, cut, budget, &(16..16 + length).map(pattern).collect::<Vec<u8>>());
         let guarded = (0..16).chain(16 + length..length + 32).all(|i| area[i] == pattern(i));
         self.calls += 1;
         match number / 1000 {

@@ -6,6 +6,7 @@
 
 #[allow(dead_code)] // each test uses a part
 mod sheets;
+#[allow(dead_code)]
 mod calls;
 mod failures;
 #[allow(dead_code)]

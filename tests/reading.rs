@@ -354,19 +354,23 @@ pub fn members(bytes: &[u8]) -> Set {
     (0..256).filter(|e| bytes[e / 8] >> (e % 8) & 1 == 1).collect()
 }
 
-// The refusal of a call with a buffer of this length, or 0.
-pub fn refused(s: &[u8], cut: u32, budget: u32, length: usize) -> u32 {
+// "a quick entry point of at most 64 rungs beside the full one of 256" (document 02, E7)
+pub const FULL: u32 = 256;
+pub const QUICK: u32 = 64;
+
+// The refusal of a call with this limit and a buffer of this length, or 0.
+pub fn refused(limit: u32, s: &[u8], cut: u32, budget: u32, length: usize) -> u32 {
     match refusal(s) {
         0 if cut > u32::from(s[6]) * 256 + u32::from(s[7]) => 8,
-        0 if budget > 256 => 9,
+        0 if budget > limit => 9,
         0 if length < FRONT + 40 * budget as usize => 10,
         refused => refused,
     }
 }
 
-// The number and the buffer that the documents ask for.
-pub fn expected(s: &[u8], cut: u32, budget: u32, buffer: &[u8]) -> (u32, Vec<u8>) {
-    match refused(s, cut, budget, buffer.len()) {
+// The number and the buffer that the documents ask for of a call with this limit.
+pub fn expected(limit: u32, s: &[u8], cut: u32, budget: u32, buffer: &[u8]) -> (u32, Vec<u8>) {
+    match refused(limit, s, cut, budget, buffer.len()) {
         0 => judged(EVERY_RULE, &read(s), cut as usize, budget as usize, buffer),
         refused => (refused, buffer.to_vec()),
     }

@@ -5,9 +5,11 @@
 
 #[allow(dead_code)] // each test uses a part
 mod sheets;
+#[allow(dead_code)]
 mod calls;
 #[allow(dead_code)]
 mod cards;
+mod eliminated;
 mod failures;
 #[allow(dead_code)]
 mod kinds;
@@ -15,7 +17,6 @@ mod larger;
 #[allow(dead_code)]
 mod off;
 mod plain;
-mod quick;
 #[allow(dead_code)]
 mod reading;
 mod settings_larger;
@@ -24,7 +25,7 @@ mod settings_small;
 mod settings_stated;
 use calls::{limited, verdict};
 use failures::Failures;
-use reading::{judged, members, read, refused, replay, uses_only, Setting, Sheet};
+use reading::{judged, members, read, refused, replay, uses_only, Setting, Sheet, FULL};
 use sheets::{refusal, sheet, Entry, Random, FRONT};
 
 // The length of a buffer for 256 rungs, and that of the guards on both sides of it.
@@ -99,7 +100,7 @@ impl Tally {
     fn call(&mut self, what: &str, on: &Subject, rules: u8, cut: u32, budget: u32, length: usize) -> Called {
         let (called, guarded) = self.made(on, rules, cut, budget, length);
         let before = &self.pattern[GUARD..GUARD + length];
-        let (number, buffer) = match (refused(&on.bytes, cut, budget, length), &on.read) {
+        let (number, buffer) = match (refused(FULL, &on.bytes, cut, budget, length), &on.read) {
             (0, Some(sheet)) => judged(Setting(rules), sheet, cut as usize, budget as usize, before),
             (refused, _) => (refused, before.to_vec()),
         };

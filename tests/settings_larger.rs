@@ -1,11 +1,11 @@
 // Larger sheets, up to 256 entries, in settings at random: beside the plain verdict, whose bytes are all compared, and by what the documents say of a call's
-// rungs (quick.rs) and sets (larger.rs). Switches are turned on one after the other.
+// rungs (eliminated.rs) and sets (larger.rs). Switches are turned on one after the other.
 
 use super::cards::large;
 use super::kinds;
 use super::larger::Larger;
 use super::plain;
-use super::quick::Quick;
+use super::eliminated::Eliminated;
 use super::reading::{members, read, rung_bytes, Setting};
 use super::sheets::{full_sheet, sheet, Entry, Random, FRONT};
 use super::{limited, verdict, Called, Tally, SUM};
@@ -43,13 +43,13 @@ fn any_setting(r: &mut Random) -> u8 {
 // What the documents say of the call holds of the library's bytes.
 fn judged(t: &mut Tally, s: &[u8], heard: usize, r: &mut Random) {
     let (larger, sheet) = (Larger::new(s), read(s));
-    let quick = Quick::new(&sheet);
+    let eliminated = Eliminated::new(&sheet);
     for cut in [0, heard / 2, heard] {
         for budget in [r.below(9) as usize, 256, 256] {
             let rules = any_setting(r);
             let Called { answer, buffer, .. } = beside_plain(t, s, rules, cut, budget);
             let setting = Setting(rules);
-            let (number, rungs) = quick.judged(setting, cut, budget);
+            let (number, rungs) = eliminated.judged(setting, cut, budget);
             let after = [rungs.iter().flat_map(rung_bytes).collect(), t.pattern[FRONT + 40 * rungs.len()..buffer.len()].to_vec()].concat();
             let same = answer == number && buffer[FRONT..] == after;
             if !same || !larger.judged(setting, cut, answer, &buffer) || !larger.holds(setting, cut, answer, &buffer) {

@@ -1,10 +1,12 @@
 // Libraries that are wrong on purpose, by the plain Rust verdict with a fault put in: the brute-force test has to fail on each of them, the test of the
 // refusals on those with a fault in the table, the test of the settings on those with a fault in the setting (wrong_settings.rs), the test of own atoms on those
-// that take an own atom for something on the sheet, and each has to pass on the one without a fault. The environment variable FAULT chooses the fault.
+// that take an own atom for something on the sheet, the test of the limits on those with a fault in the quick call (wrong_quick.rs), and each has to pass on the
+// one without a fault. The environment variable FAULT chooses the fault.
 
 #[allow(dead_code)]
 mod sheets;
 mod plain;
+mod wrong_quick;
 mod wrong_settings;
 use plain::{add, has, leading, single, Choices, Right, Set, State, Tables};
 use sheets::{bad_record, refusal, refusal_by, ATOM_LENGTHS, FRONT, LAST_KIND, LONGEST};
@@ -538,6 +540,7 @@ pub unsafe extern "C" fn zuwendryk_verdict(sheet: *const u8, sheet_len: usize, c
     let before = out.to_vec();
     let answer = match fault() {
         "the full verdict without unlock and lock" => plain::limited(s, cut, budget, 63, out),
+        "the limit of 64 on the full call too" => wrong_quick::with_limit(64, s, cut, budget, out),
         _ => verdict(s, cut, budget, out),
     };
     if answer >= 1000 {
@@ -558,6 +561,12 @@ pub unsafe extern "C" fn zuwendryk_verdict(sheet: *const u8, sheet_len: usize, c
         }
         _ => answer,
     }
+}
+
+#[no_mangle]
+pub unsafe extern "C" fn zuwendryk_quick_verdict(sheet: *const u8, len: usize, cut: u32, budget: u32, buffer: *mut u8, buffer_len: usize) -> u32 {
+    let s = std::slice::from_raw_parts(sheet, len);
+    wrong_quick::verdict(s, cut, budget, std::slice::from_raw_parts_mut(buffer, buffer_len))
 }
 
 #[no_mangle]

@@ -36,6 +36,8 @@ mod print;
 mod rows;
 #[path = "sheet/rules.rs"]
 mod rules;
+#[path = "sheet/screen.rs"]
+mod screen;
 #[path = "sheet/short.rs"]
 mod short;
 #[path = "sheet/svg.rs"]
@@ -44,6 +46,8 @@ mod svg;
 mod text;
 #[path = "sheet/verdict.rs"]
 mod verdict;
+#[path = "sheet/watch.rs"]
+mod watch;
 #[path = "sheet/words.rs"]
 mod words;
 
@@ -138,6 +142,11 @@ fn run(command: Command) -> Result<u8, String> {
             let judged = judged(&sheet, cut, rules)?;
             files::write(&out, judged.text.as_bytes()).map(|()| if judged.reached { REACHED } else { DONE })
         }
+        Command::Watch { sheet, once: true } => {
+            let shown = watch::look(&sheet);
+            files::write(&File::Standard, shown.text.as_bytes()).map(|()| shown.status)
+        }
+        Command::Watch { sheet, once: false } => watch::watch(&sheet).map(done),
     }
 }
 

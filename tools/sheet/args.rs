@@ -26,15 +26,18 @@ pub enum Command {
     Draw { sheet: File, card: Option<File>, rules: Rules, dot: bool, needed: bool, out: File },
     // Without a cut: every cut up to the first reached.
     Judge { sheet: File, cut: Option<u32>, rules: Rules, out: File },
+    // The sheet is a file with a name.
+    Watch { sheet: File, once: bool },
 }
 
 // The version of the tool and of the library, as the C header has it.
-const VERSION: &str = "sheet 5.1.0\n";
+const VERSION: &str = "sheet 5.2.0\n";
 
 const HELP: &str = "\
 sheet - sheets as text, verdicts in names, and pictures of their ladders
 
 usage: sheet judge [SHEET] [--cut C] [--without RULES] [-o FILE]    verdict, and steps or what is missing, by name
+       sheet watch SHEET [--once]                         the verdict on one screen, again whenever the file changes
        sheet assemble    [TEXT] [-o FILE]                 text notation to sheet bytes
        sheet disassemble [SHEET] [-o FILE]                sheet bytes to text notation
        sheet draw [--svg | --dot] [--needed] [--without RULES] SHEET [CARD] [-o FILE]    picture of the ladder
@@ -45,6 +48,21 @@ A file name that is missing or - is standard input; without -o, standard output 
 the new one is written, and never the file that is read.
 Status: 0 done, 1 bad input or an output that can't be written, 2 wrong usage. Unless done, nothing is written.
 judge ends with 0 for out of reach and 3 for reached.
+";
+
+const WATCH: &str = "\
+usage: sheet watch SHEET [--once]
+
+Shows the verdict on a file while it is edited, on one screen: judged again each time the file changes, until an interrupt. SHEET is text
+notation or sheet bytes, in a file. The verdict is that of judge at the first cut that is reached, or of all heard messages, with the steps or
+what is missing. Where the text is bad, its fault is shown with its line.
+The verdict comes from the library's quick call, which makes at most 64 steps. Where it is stopped, the first line says so, and the full
+call's verdict follows. On a sheet of 64 entries or fewer it is never stopped.
+
+    --once    shows it once, as plain text, and ends: with 0 for out of reach, 3 for reached, 1 for a bad text or a refused sheet
+
+Where standard output is no terminal, each new verdict is written below the one before.
+Status: 0 after an interrupt, 1 an output that can't be written, 2 wrong usage.
 ";
 
 const JUDGE: &str = "\
@@ -135,6 +153,7 @@ struct Words {
     needed: bool,
     cut: Option<u32>,
     rules: Option<Rules>,
+    once: bool,
     help: bool,
 }
 
@@ -157,7 +176,7 @@ fn sort(words: impl Iterator<Item = OsString>, command: &str) -> Result<Words, S
     let mut sorted = Words::default();
     let mut words = words;
     let mut plain = false;
-    let (draw, judge) = (command == "draw", command == "judge");
+    let (draw, judge, watch) = (command == "draw", command == "judge", command == "watch");
     while let Some(word) = words.next() {
         match word.to_str() {
             _ if plain => sorted.files.push(word),
@@ -170,8 +189,9 @@ fn sort(words: impl Iterator<Item = OsString>, command: &str) -> Result<Words, S
             Some("--cut") if judge => sorted.cut = Some(cut_of(words.next())?),
             Some("--without") if (draw || judge) && sorted.rules.is_some() => return Err("--without is given twice, expected once".to_string()),
             Some("--without") if draw || judge => sorted.rules = Some(rules_of(words.next())?),
-            Some("-o") if sorted.out.is_some() => return Err("-o is given twice, expected once".to_string()),
-            Some("-o") => sorted.out = Some(words.next().ok_or("-o is the last word, expected a file name after it")?),
+            Some("--once") if watch => sorted.once = true,
+            Some("-o") if !watch && sorted.out.is_some() => return Err("-o is given twice, expected once".to_string()),
+            Some("-o") if !watch => sorted.out = Some(words.next().ok_or("-o is the last word, expected a file name after it")?),
             Some("-") => sorted.files.push(word),
             Some(option) if option.starts_with('-') => return Err(format!("unknown option {}", shown(&word))),
             _ => sorted.files.push(word),
@@ -186,6 +206,15 @@ fn one(command: &str, files: Vec<OsString>) -> Result<File, String> {
         return Err(format!("{command} takes at most one file name, found also {}", shown(extra)));
     }
     Ok(files.into_iter().next().map_or(File::Standard, File::of))
+}
+
+// The one file that is watched.
+fn watched(words: Words) -> Result<Command, String> {
+    match &words.files[..] {
+        [name] if name != "-" => Ok(Command::Watch { sheet: File::Named(name.clone()), once: words.once }),
+        [_] => Err("watch takes a file by its name, and not standard input".to_string()),
+        files => Err(format!("watch takes one file name, found {}", files.len())),
+    }
 }
 
 fn draw(words: Words, out: File) -> Result<Command, String> {
@@ -210,7 +239,7 @@ fn draw(words: Words, out: File) -> Result<Command, String> {
 
 // The command of a line without the program's own name.
 pub fn parse(mut line: impl Iterator<Item = OsString>) -> Result<Command, String> {
-    let first = line.next().ok_or("no command, expected judge, assemble, disassemble or draw")?;
+    let first = line.next().ok_or("no command, expected judge, watch, assemble, disassemble or draw")?;
     let (name, help) = match first.to_str() {
         Some("-h" | "--help") => return Ok(Command::Say(HELP)),
         Some("--version") => return Ok(Command::Say(VERSION)),
@@ -218,7 +247,8 @@ pub fn parse(mut line: impl Iterator<Item = OsString>) -> Result<Command, String
         Some("assemble") => ("assemble", ASSEMBLE),
         Some("disassemble") => ("disassemble", DISASSEMBLE),
         Some("draw") => ("draw", DRAW),
-        _ => return Err(format!("unknown command {}, expected judge, assemble, disassemble or draw", shown(&first))),
+        Some("watch") => ("watch", WATCH),
+        _ => return Err(format!("unknown command {}, expected judge, watch, assemble, disassemble or draw", shown(&first))),
     };
     let mut words = sort(line, name)?;
     if words.help {
@@ -228,6 +258,7 @@ pub fn parse(mut line: impl Iterator<Item = OsString>) -> Result<Command, String
     match name {
         "judge" => Ok(Command::Judge { cut: words.cut, rules: words.rules.unwrap_or(Rules::EVERY), sheet: one(name, words.files)?, out }),
         "assemble" => Ok(Command::Assemble { text: one(name, words.files)?, out }),
+        "watch" => watched(words),
         "disassemble" => Ok(Command::Disassemble { sheet: one(name, words.files)?, out }),
         _ => draw(words, out),
     }

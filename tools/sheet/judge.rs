@@ -149,6 +149,17 @@ fn same_lines(sheet: &Sheet, public: &[usize], cut: usize, verdict: &Verdict) ->
     text
 }
 
+// What is said of the verdict at one cut: the verdict, what the listener has and lacks before he hears anything, `cuts`, and the rungs or what is missing.
+pub fn told_at(bytes: &[u8], sheet: &Sheet, cut: usize, verdict: &Verdict, rules: Rules, cuts: &str) -> String {
+    let public = gained_at_start(bytes);
+    let mut text = first_line(sheet, &public, cut, verdict, rules) + &rules_line(rules) + &public_line(sheet, &public) + cuts;
+    match verdict {
+        Verdict::Reached(rungs) => rungs.iter().for_each(|rung| text += &rung_line(sheet, rung)),
+        Verdict::OutOfReach { lack, .. } => text += &lack_lines(sheet, lack, rules),
+    }
+    text + &same_lines(sheet, &public, cut, verdict)
+}
+
 // A cut past the heard messages is said with their number.
 fn refused_cut(number: u32, sheet: &Sheet, cut: Option<u32>) -> String {
     match cut {
@@ -166,15 +177,6 @@ pub fn judge(bytes: &[u8], sheet: &Sheet, cut: Option<u32>, rules: Rules) -> Res
     let (first, list) = asked.map_err(|number| refused_cut(number, sheet, cut))?;
     let cut = first + list.len() - 1;
     let last = list.last().cloned().unwrap_or(Verdict::OutOfReach { known: 0, lack: Lack::default() });
-    let public = gained_at_start(bytes);
-    let mut text = first_line(sheet, &public, cut, &last, rules) + &rules_line(rules) + &public_line(sheet, &public);
-    for (i, verdict) in list.iter().enumerate() {
-        text += &cut_line(sheet, first + i, verdict);
-    }
-    match &last {
-        Verdict::Reached(rungs) => rungs.iter().for_each(|rung| text += &rung_line(sheet, rung)),
-        Verdict::OutOfReach { lack, .. } => text += &lack_lines(sheet, lack, rules),
-    }
-    text += &same_lines(sheet, &public, cut, &last);
-    Ok(Judged { text, reached: matches!(last, Verdict::Reached(_)) })
+    let cuts: String = list.iter().enumerate().map(|(i, verdict)| cut_line(sheet, first + i, verdict)).collect();
+    Ok(Judged { text: told_at(bytes, sheet, cut, &last, rules, &cuts), reached: matches!(last, Verdict::Reached(_)) })
 }

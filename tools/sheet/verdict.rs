@@ -13,9 +13,13 @@ const FRONT: usize = 3 * SET_BYTES;
 const RUNG_BYTES: usize = 40;
 // With this budget no sheet's work is stopped.
 const BUDGET: u32 = 256;
+// The most steps that the quick call makes, and its answer when another follows them.
+pub const QUICK_BUDGET: u32 = 64;
+pub const QUICK_STOPPED: u32 = 3000 + QUICK_BUDGET;
 
 extern "C" {
     fn zuwendryk_verdict(sheet: *const u8, sheet_len: usize, cut: u32, budget: u32, buffer: *mut u8, buffer_len: usize) -> u32;
+    fn zuwendryk_quick_verdict(sheet: *const u8, sheet_len: usize, cut: u32, budget: u32, buffer: *mut u8, buffer_len: usize) -> u32;
     fn zuwendryk_limited_verdict(sheet: *const u8, sheet_len: usize, cut: u32, budget: u32, rules: u8, buffer: *mut u8, buffer_len: usize) -> u32;
 }
 
@@ -63,9 +67,8 @@ fn rung(bytes: &[u8]) -> Option<Rung> {
     Some(Rung { head: number(0), rule, sources })
 }
 
-// The verdict on a listener with these rules after the first `cut` messages, or the number that came back instead of one.
-pub fn verdict(sheet: &[u8], cut: u32, rules: Rules) -> Result<Verdict, u32> {
-    let (answer, buffer) = call(sheet, cut, BUDGET, rules);
+// The verdict of an answer and the buffer behind it, or the number that came back instead of one.
+fn read(answer: u32, buffer: &[u8]) -> Result<Verdict, u32> {
     let made = answer as usize % 1000;
     match answer {
         1000..=1256 => {
@@ -73,11 +76,25 @@ pub fn verdict(sheet: &[u8], cut: u32, rules: Rules) -> Result<Verdict, u32> {
             rungs.map(Verdict::Reached).ok_or(answer)
         }
         2000..=2256 => {
-            let lack = Lack { used: front(&buffer, USED), missing: front(&buffer, REMAINDER) };
-            Ok(Verdict::OutOfReach { known: front(&buffer, GAINED).len(), lack })
+            let lack = Lack { used: front(buffer, USED), missing: front(buffer, REMAINDER) };
+            Ok(Verdict::OutOfReach { known: front(buffer, GAINED).len(), lack })
         }
         _ => Err(answer),
     }
+}
+
+// The verdict on a listener with these rules after the first `cut` messages.
+pub fn verdict(sheet: &[u8], cut: u32, rules: Rules) -> Result<Verdict, u32> {
+    let (answer, buffer) = call(sheet, cut, BUDGET, rules);
+    read(answer, &buffer)
+}
+
+// The same of a listener with every rule by the quick call, which may be stopped.
+pub fn quick(sheet: &[u8], cut: u32) -> Result<Verdict, u32> {
+    let mut buffer = [0; FRONT + RUNG_BYTES * QUICK_BUDGET as usize];
+    // Both areas are slices, so neither pointer is null and they don't overlap.
+    let answer = unsafe { zuwendryk_quick_verdict(sheet.as_ptr(), sheet.len(), cut, QUICK_BUDGET, buffer.as_mut_ptr(), buffer.len()) };
+    read(answer, &buffer)
 }
 
 // What a listener has gained who heard nothing and made no step: the public atoms, each as its head, in rising order.

@@ -30,7 +30,7 @@ enum Shape {
     Other,
 }
 
-pub struct Quick<'a> {
+pub struct Eliminated<'a> {
     sheet: &'a Sheet,
     heads: Vec<usize>,
     shapes: Vec<Shape>,
@@ -63,8 +63,8 @@ impl State {
     }
 }
 
-impl Quick<'_> {
-    pub fn new(sheet: &Sheet) -> Quick<'_> {
+impl Eliminated<'_> {
+    pub fn new(sheet: &Sheet) -> Eliminated<'_> {
         let heads = heads(sheet);
         let by_term: BTreeMap<&Term, usize> = heads.iter().map(|&h| (&sheet.terms[h], h)).collect();
         let shape = |t: &Term| match single(t) {
@@ -75,7 +75,7 @@ impl Quick<'_> {
         };
         let (shapes, standard) = (sheet.terms.iter().map(shape).collect(), standard(sheet, &heads));
         let sets = sheet.terms.iter().map(|t| bits(&standard_set(&standard, t))).collect();
-        Quick { sheet, heads, shapes, sets }
+        Eliminated { sheet, heads, shapes, sets }
     }
 
     // How the head follows by a gained term: the rule, and its sources.
