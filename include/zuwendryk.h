@@ -6,10 +6,11 @@
  * called rungs. "Out of reach" is proved: no finite row of steps whatever, through terms of any size, gains the goal. It comes with what the
  * listener still lacks.
  *
- * A stranger whose receiver can't do everything has fewer rules. A second verdict takes a byte that says which; see SWITCHES.
+ * A stranger whose receiver can't do everything has fewer rules. A second verdict takes a byte that says which; see SWITCHES. A third is for editors,
+ * which ask after every keystroke: it makes at most 64 rungs; see QUICK.
  *
- * This header is the manual: version, linking, the sheet's bytes, the rules and their switches, the answers, the buffer's bytes, what is missing,
- * stack, what a caller owes and what is proved, then the three calls. examples/build.c makes a sheet and asks for its verdict; examples/verdict.c
+ * This header is the manual: version, linking, the sheet's bytes, the rules and their switches, the quick verdict, the answers, the buffer's bytes,
+ * what is missing, stack, what a caller owes and what is proved, then the four calls. examples/build.c makes a sheet and asks for its verdict; examples/verdict.c
  * reads one from a file.
  */
 #ifndef ZUWENDRYK_H
@@ -25,6 +26,8 @@ extern "C" {
 /* VERSION. The same stands in zuwendryk.pc and in what `sheet --version` prints. The first number changes when a sheet can get another answer or
  * the buffer another layout:
  *
+ *     5.2.0   zuwendryk_quick_verdict, a verdict of at most 64 rungs, and ZUWENDRYK_QUICK_RUNGS. No answer and no byte of the other calls changes, and
+ *             a caller that was made for version 5.1 needs nothing.
  *     5.1.0   zuwendryk_limited_verdict, a verdict on a stranger who has only some of the rules, and macros for its switches. No answer and no byte
  *             of the other calls changes, and a caller that was made for version 5.0 needs nothing.
  *     5.0.0   Key pairs and locks: the kinds 5, 6 and 7, the rules 7 and 8, and refusal 12, wrong half. A caller that was made for version 4 has to
@@ -40,9 +43,9 @@ extern "C" {
  *     2.0.0   Atoms 0 to 255 are on the hull label. A sheet that was made for version 1 and uses such numbers for secrets has to be numbered
  *             anew. */
 #define ZUWENDRYK_VERSION_MAJOR 5
-#define ZUWENDRYK_VERSION_MINOR 1
+#define ZUWENDRYK_VERSION_MINOR 2
 #define ZUWENDRYK_VERSION_PATCH 0
-#define ZUWENDRYK_VERSION "5.1.0"
+#define ZUWENDRYK_VERSION "5.2.0"
 
 /* LINKING
  *
@@ -172,6 +175,7 @@ extern "C" {
 #define ZUWENDRYK_RULE_LOCK 8
 #define ZUWENDRYK_NO_SOURCE 65535
 #define ZUWENDRYK_MOST_RUNGS 256 /* the greatest budget */
+#define ZUWENDRYK_QUICK_RUNGS 64 /* that of the quick verdict */
 
 /* SWITCHES. zuwendryk_limited_verdict takes a byte of eight switches, the lowest bit for rule 1. Only rungs by the rules that are switched on are
  * made. Every byte is good: with 0 a stranger makes no rung, with 255 he has every rule. Every other call has every rule on. The start, which terms are
@@ -188,7 +192,12 @@ extern "C" {
 #define ZUWENDRYK_SWITCH(rule) (1 << ((rule) - 1))
 #define ZUWENDRYK_EVERY_RULE 255
 
-/* ANSWERS of both verdicts: a refusal's number, or a verdict's number plus the number of rungs made, 0 to 256. So an answer below
+/* QUICK. zuwendryk_quick_verdict is the verdict with every rule on for a budget of at most ZUWENDRYK_QUICK_RUNGS; a greater one is refused with 9. So the
+ * time of a call and the length of its buffer, at most 2,656 bytes, are known beforehand. With the same budget it gives the answer and the bytes of
+ * zuwendryk_verdict. Where it says reached or out of reach, zuwendryk_verdict gives the same number with every budget with which it isn't stopped. On
+ * a sheet of up to 64 entries it is never stopped with a budget of 64. Where it is stopped, ask zuwendryk_verdict. */
+
+/* ANSWERS of the verdicts: a refusal's number, or a verdict's number plus the number of rungs made, 0 to 256. So an answer below
  * ZUWENDRYK_REACHED is a refusal, and of any other answer / 1000 * 1000 is the verdict and answer % 1000 the rungs. */
 
 /* Refusals. They are looked for in the order of their numbers, except that the records are taken entry by entry, and in each 5 comes before 6 and 6
@@ -202,7 +211,7 @@ extern "C" {
 #define ZUWENDRYK_FORWARD 6      /* an entry number in a record that isn't lower than the record's own */
 #define ZUWENDRYK_NOT_LISTED 7   /* a heard message, also one past the cut, whose entry number is n or more */
 #define ZUWENDRYK_PAST_THE_LOG 8 /* cut over h */
-#define ZUWENDRYK_OVER_BUDGET 9  /* budget over ZUWENDRYK_MOST_RUNGS */
+#define ZUWENDRYK_OVER_BUDGET 9  /* budget over ZUWENDRYK_MOST_RUNGS; in the quick verdict, over ZUWENDRYK_QUICK_RUNGS */
 #define ZUWENDRYK_NO_SPACE 10    /* a buffer shorter than ZUWENDRYK_BUFFER(budget) */
 #define ZUWENDRYK_WRONG_HALF 12  /* a lock whose key entry isn't itself of kind 5 or 6 */
 
@@ -289,7 +298,11 @@ extern "C" {
  * remainder are as said above. With ZUWENDRYK_EVERY_RULE it gives the answer and the bytes of zuwendryk_verdict. With a budget of 256, turning a switch
  * on never turns reached into out of reach, and where the goal stays out of reach no gained term is lost.
  *
- * Making up values is no help: where either verdict is out of reach, it is proved that the goal stays so for a stranger who also starts with any finite
+ * The same is proved of zuwendryk_quick_verdict; and that with a budget of at most 64, refused or not, its answer and bytes are those of
+ * zuwendryk_verdict; and that any two of its answers and those of zuwendryk_verdict on one sheet and cut, whatever the budgets, are the same number
+ * where neither is refused or stopped, and so are any two of zuwendryk_limited_verdict with one byte of switches.
+ *
+ * Making up values is no help: where a verdict is out of reach, it is proved that the goal stays so for a stranger who also starts with any finite
  * number of atoms that occur in no entry, and with all atoms 0 to 255. This is about atoms. A half of a key pair can open a lock, on the sheet or not.
  *
  * Assumed are the checker, the compiler's back end, and that keys are perfect: a seal shows nothing without its key, nor a lock without the opposite
@@ -303,6 +316,9 @@ uint32_t zuwendryk_verdict(const uint8_t *sheet, size_t sheet_len, uint32_t cut,
  * good. */
 uint32_t zuwendryk_limited_verdict(const uint8_t *sheet, size_t sheet_len, uint32_t cut, uint32_t budget, uint8_t rules, uint8_t *buffer,
                                    size_t buffer_len);
+
+/* The same verdict as zuwendryk_verdict for a budget of 0 to 64; see QUICK. A greater budget is refused with 9. */
+uint32_t zuwendryk_quick_verdict(const uint8_t *sheet, size_t sheet_len, uint32_t cut, uint32_t budget, uint8_t *buffer, size_t buffer_len);
 
 /* Is this a good sheet? The number of the refusal, 1 to 7 or 12, or 0 for a good one. */
 uint32_t zuwendryk_validate(const uint8_t *sheet, size_t sheet_len);

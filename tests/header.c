@@ -98,9 +98,25 @@ static void switches(void) {
            ZUWENDRYK_NO_SHEET);
 }
 
+/* The quick verdict: its greatest budget, and one more; the length of its buffer. */
+static void quick(void) {
+    static uint8_t small[ZUWENDRYK_BUFFER(ZUWENDRYK_QUICK_RUNGS)];
+    const uint8_t one[] = {'S', 'H', 'T', '1', 0, 1, 0, 0, 0, 0, 0, 14, 0, 1, ZUWENDRYK_KIND_ZERO};
+    expect("the buffer of the quick verdict", sizeof small, 2656);
+    expect("the quick answer", zuwendryk_quick_verdict(one, sizeof one, 0, ZUWENDRYK_QUICK_RUNGS, small, sizeof small), ZUWENDRYK_REACHED + 1);
+    expect("the quick answer without a budget", zuwendryk_quick_verdict(one, sizeof one, 0, 0, small, ZUWENDRYK_FRONT), ZUWENDRYK_STOPPED);
+    expect("the quick answer to a greater budget", zuwendryk_quick_verdict(one, sizeof one, 0, ZUWENDRYK_QUICK_RUNGS + 1, buffer, sizeof buffer),
+           ZUWENDRYK_OVER_BUDGET);
+    expect("the quick answer with a byte less", zuwendryk_quick_verdict(one, sizeof one, 0, ZUWENDRYK_QUICK_RUNGS, small, sizeof small - 1),
+           ZUWENDRYK_NO_SPACE);
+    expect("the quick answer to a later cut", zuwendryk_quick_verdict(one, sizeof one, 1, ZUWENDRYK_QUICK_RUNGS + 1, small, 0),
+           ZUWENDRYK_PAST_THE_LOG);
+}
+
 int main(void) {
     sizes();
     switches();
+    quick();
     version();
     atoms();
     halves();

@@ -34,7 +34,8 @@ enum {
 
 static uint8_t sheet[LENGTH], buffer[ZUWENDRYK_BUFFER(RUNGS)];
 static uint8_t *lowest; /* the stack's lowest byte, above the page that may not be touched */
-static int setting = -1; /* that of the verdict, or -1 for the full one */
+enum { FULL = -1, QUICK = -2 };
+static int setting = FULL; /* that of the verdict, or the full one, or the quick one */
 
 /* What the child finds out, in memory that it shares with its parent. */
 static struct result {
@@ -143,7 +144,8 @@ static void make_worst(void) {
 static __attribute__((noinline)) void make(const struct call *c) {
     result->top = (uintptr_t)__builtin_frame_address(0);
     if (c->kind == VALIDATE) result->answer = zuwendryk_validate(sheet, c->len);
-    else if (setting < 0) result->answer = zuwendryk_verdict(sheet, c->len, c->cut, c->budget, buffer, c->space);
+    else if (setting == FULL) result->answer = zuwendryk_verdict(sheet, c->len, c->cut, c->budget, buffer, c->space);
+    else if (setting == QUICK) result->answer = zuwendryk_quick_verdict(sheet, c->len, c->cut, c->budget, buffer, c->space);
     else result->answer = zuwendryk_limited_verdict(sheet, c->len, c->cut, c->budget, (uint8_t)setting, buffer, c->space);
 }
 
@@ -218,7 +220,8 @@ static int judge(const struct call *c, size_t said, size_t *most) {
 /* The thread that the header says is enough. */
 static void *plain_thread(void *arg) {
     (void)arg;
-    if (setting < 0) zuwendryk_verdict(sheet, LENGTH, HEARD, RUNGS, buffer, sizeof buffer);
+    if (setting == FULL) zuwendryk_verdict(sheet, LENGTH, HEARD, RUNGS, buffer, sizeof buffer);
+    else if (setting == QUICK) zuwendryk_quick_verdict(sheet, LENGTH, HEARD, ZUWENDRYK_QUICK_RUNGS, buffer, sizeof buffer);
     else zuwendryk_limited_verdict(sheet, LENGTH, HEARD, RUNGS, (uint8_t)setting, buffer, sizeof buffer);
     return NULL;
 }
@@ -236,12 +239,19 @@ static int plain(void) {
     return child_id > 0 && waitpid(child_id, &status, 0) == child_id && status == 0;
 }
 
+/* A call with the quick verdict's greatest budget in place of 256. */
+static struct call quick(struct call c) {
+    if (c.budget >= RUNGS) c.budget -= RUNGS - ZUWENDRYK_QUICK_RUNGS;
+    c.space -= ZUWENDRYK_BUFFER(RUNGS) - ZUWENDRYK_BUFFER(ZUWENDRYK_QUICK_RUNGS);
+    return c;
+}
+
 /* Judges every call with the present setting, and the thread. In another setting than the full one a verdict is any. Answers how many are good. */
 static unsigned judge_all(size_t most[]) {
     unsigned passed = 0;
     for (unsigned i = 0; i < CALLS; i++) {
-        struct call c = calls[i];
-        if (c.kind == VERDICT && setting >= 0 && setting != ZUWENDRYK_EVERY_RULE) {
+        struct call c = setting == QUICK && calls[i].kind != VALIDATE ? quick(calls[i]) : calls[i];
+        if (c.kind == VERDICT && setting != FULL && setting != ZUWENDRYK_EVERY_RULE) {
             c.answer = ZUWENDRYK_REACHED;
             c.more = ZUWENDRYK_STOPPED + RUNGS - ZUWENDRYK_REACHED;
         }
@@ -252,21 +262,24 @@ static unsigned judge_all(size_t most[]) {
     return passed;
 }
 
-/* The full verdict, then the one with a setting: every rule on, none, sum alone, all but sum. */
+/* The full verdict, the quick one, then the one with a setting: every rule on, none, sum alone, all but sum. */
 int main(void) {
     static const int settings[] = {ZUWENDRYK_EVERY_RULE, 0, ZUWENDRYK_SWITCH(ZUWENDRYK_RULE_SUM), ZUWENDRYK_EVERY_RULE & ~ZUWENDRYK_SWITCH(ZUWENDRYK_RULE_SUM)};
-    size_t most[] = {0, 0, 0}, limited[] = {0, 0, 0};
-    unsigned passed, count = (CALLS + 1) * (1 + sizeof settings / sizeof settings[0]);
+    size_t most[] = {0, 0, 0}, fast[] = {0, 0, 0}, limited[] = {0, 0, 0};
+    unsigned passed, count = (CALLS + 1) * (2 + sizeof settings / sizeof settings[0]);
     make_worst();
     result = mmap(NULL, PAGE, PROT_READ | PROT_WRITE, MAP_SHARED | MAP_ANONYMOUS, -1, 0);
     if (result == MAP_FAILED) return 2;
     passed = judge_all(most);
+    setting = QUICK;
+    passed += judge_all(fast);
     for (size_t i = 0; i < sizeof settings / sizeof settings[0]; i++) {
         setting = settings[i];
         passed += judge_all(limited);
     }
-    printf("stack: touched by a verdict %zu bytes, with a setting %zu (said: %d), ", most[VERDICT], limited[VERDICT], ZUWENDRYK_STACK);
-    printf("by a refused one %zu, with a setting %zu, by validate %zu (said: %d)\n", most[REFUSED], limited[REFUSED], most[VALIDATE], ZUWENDRYK_STACK_REFUSED);
+    printf("stack: touched by a verdict %zu bytes, a quick one %zu, with a setting %zu (said: %d), ", most[VERDICT], fast[VERDICT], limited[VERDICT], ZUWENDRYK_STACK);
+    printf("by a refused one %zu, a quick one %zu, with a setting %zu, by validate %zu (said: %d)\n", most[REFUSED], fast[REFUSED], limited[REFUSED], most[VALIDATE],
+           ZUWENDRYK_STACK_REFUSED);
     printf("stack: %u passed, %u failed\n", passed, count - passed);
     return passed != count;
 }
