@@ -16,6 +16,8 @@ extern "C" {
     fn zuwendryk_verdict(sheet: *const u8, sheet_len: usize, cut: u32, budget: u32, buffer: *mut u8, buffer_len: usize) -> u32;
     fn zuwendryk_validate(sheet: *const u8, sheet_len: usize) -> u32;
     fn zuwendryk_limited_verdict(sheet: *const u8, sheet_len: usize, cut: u32, budget: u32, rules: u8, buffer: *mut u8, buffer_len: usize) -> u32;
+    fn zuwendryk_quick_verdict(sheet: *const u8, sheet_len: usize, cut: u32, budget: u32, buffer: *mut u8, buffer_len: usize) -> u32;
+    fn earlier_limited_verdict(sheet: *const u8, sheet_len: usize, cut: u32, budget: u32, rules: u8, buffer: *mut u8, buffer_len: usize) -> u32;
     fn earlier_verdict(sheet: *const u8, sheet_len: usize, cut: u32, budget: u32, buffer: *mut u8, buffer_len: usize) -> u32;
     fn earlier_validate(sheet: *const u8, sheet_len: usize) -> u32;
 }
@@ -29,15 +31,23 @@ fn earlier(s: &[u8], cut: u32, budget: u32, out: &mut [u8]) -> u32 {
     unsafe { earlier_verdict(s.as_ptr(), s.len(), cut, budget, out.as_mut_ptr(), out.len()) }
 }
 
-fn with_every_rule(s: &[u8], cut: u32, budget: u32, out: &mut [u8]) -> u32 {
-    unsafe { zuwendryk_limited_verdict(s.as_ptr(), s.len(), cut, budget, EVERY_RULE, out.as_mut_ptr(), out.len()) }
+fn quick(s: &[u8], cut: u32, budget: u32, out: &mut [u8]) -> u32 {
+    unsafe { zuwendryk_quick_verdict(s.as_ptr(), s.len(), cut, budget, out.as_mut_ptr(), out.len()) }
+}
+
+fn limited_now(s: &[u8], cut: u32, budget: u32, rules: u8, out: &mut [u8]) -> u32 {
+    unsafe { zuwendryk_limited_verdict(s.as_ptr(), s.len(), cut, budget, rules, out.as_mut_ptr(), out.len()) }
+}
+
+fn limited_earlier(s: &[u8], cut: u32, budget: u32, rules: u8, out: &mut [u8]) -> u32 {
+    unsafe { earlier_limited_verdict(s.as_ptr(), s.len(), cut, budget, rules, out.as_mut_ptr(), out.len()) }
 }
 
 // ---- answers and bytes
 
-// What the change leaves alone, to be said anew for each change. Request E11 adds a call, the verdict with a setting, and "all other calls have every rule
-// on". So no sheet is left out: both earlier calls answer as they did, with the same bytes, and the new one answers as they do where every rule is on.
-const EVERY_RULE: u8 = 255;
+// What the change leaves alone, to be said anew for each change. Request E7 adds a call, the quick verdict. So no sheet is left out: the three earlier calls
+// answer as they did, with the same bytes, and the new one answers as the full verdict did with every budget of at most 64.
+const QUICK_LIMIT: u32 = 64;
 
 // Has the sheet, good or not, a record of kind 5 to 7 in a place that is on the sheet?
 fn has_locks(s: &[u8]) -> bool {
@@ -55,19 +65,24 @@ struct Tally {
 }
 
 impl Tally {
-    // One call of each, with the same bytes in its buffer: the verdict, the earlier one, and the verdict with every rule on.
-    fn call(&mut self, s: &[u8], cut: u32, budget: u32, length: usize) {
+    // One call of each, with the same bytes in its buffer: the verdict and the quick one beside the earlier verdict, and the verdict with a setting beside the
+    // earlier one.
+    fn call(&mut self, s: &[u8], cut: u32, budget: u32, rules: u8, length: usize) {
         let before: Vec<u8> = (0..length).map(|i| (i * 37 + 11) as u8).collect();
-        let mut outs = [before.clone(), before.clone(), before.clone()];
-        let calls: [fn(&[u8], u32, u32, &mut [u8]) -> u32; 3] = [now, earlier, with_every_rule];
-        let answers = [0, 1, 2].map(|i| calls[i](s, cut, budget, &mut outs[i]));
-        let verdict = (answers[0] / 1000).min(3) as usize;
+        let called = |call: &dyn Fn(&mut [u8]) -> u32| {
+            let mut out = before.clone();
+            (call(&mut out), out)
+        };
+        let [new, old, fast] = [now, earlier, quick].map(|call| called(&|out| call(s, cut, budget, out)));
+        let [new_limited, old_limited] = [limited_now, limited_earlier].map(|call| called(&|out| call(s, cut, budget, rules, out)));
+        let verdict = (new.0 / 1000).min(3) as usize;
         self.verdicts[verdict] += 1;
         self.locks[verdict] += u64::from(has_locks(s));
-        let kept = answers[0] >= 1000 || outs[0] == before;
-        let same = [1, 2].map(|i| answers[i] == answers[0] && outs[i] == outs[0]);
-        if same != [true; 2] || !kept {
-            self.failures.add(&format!("sheet {s:?} cut {cut} budget {budget}, {length} bytes: answers {answers:?}, same: {same:?}, kept where refused: {kept}"));
+        let kept = new.0 >= 1000 || new.1 == before;
+        let refused = matches!(old.0, 1..=8 | 12);
+        let same = [new == old, new_limited == old_limited, fast == if budget <= QUICK_LIMIT || refused { old } else { (9, before.clone()) }];
+        if same != [true; 3] || !kept {
+            self.failures.add(&format!("sheet {s:?} cut {cut} budget {budget}, {length} bytes, setting {rules}: same: {same:?}, kept where refused: {kept}"));
         }
     }
 
@@ -81,9 +96,9 @@ impl Tally {
         }
         let h = if s.len() >= 8 { u32::from(u16::from_be_bytes([s[6], s[7]])).min(256) } else { 0 };
         for cut in [0, h / 3, h, h + 1] {
-            for budget in [0, 1 + r.below(8) as u32, r.below(256) as u32, 256, 257] {
-                let enough = FRONT + 40 * budget.min(256) as usize;
-                self.call(s, cut, budget, if r.below(8) == 0 { enough - 1 } else { enough + r.below(50) as usize });
+            for budget in [0, 1 + r.below(8) as u32, r.below(256) as u32, 64, 65, 256, 257] {
+                let (enough, rules) = (FRONT + 40 * budget.min(256) as usize, r.below(256) as u8);
+                self.call(s, cut, budget, rules, if r.below(8) == 0 { enough - 1 } else { enough + r.below(50) as usize });
             }
         }
     }

@@ -1,0 +1,67 @@
+// The quick call as an editor makes it while a sheet is typed: on sheets of 8 to 64 entries, with a budget of 64, beside the full call with the same budget and
+// with 256. Interleaved in one run, the median of many calls each. Not part of the gate: it measures, and judges nothing.
+
+#[allow(dead_code)]
+mod calls;
+#[allow(dead_code)]
+mod kinds;
+#[allow(dead_code)]
+mod sheets;
+use kinds::Parts;
+use sheets::{sheet, FRONT};
+use std::time::Instant;
+
+type Call = (fn(&[u8], u32, u32, &mut [u8]) -> u32, u32);
+
+fn median(mut times: Vec<f64>) -> f64 {
+    times.sort_by(|a, b| a.partial_cmp(b).unwrap());
+    times[times.len() / 2]
+}
+
+// The answer, and the microseconds of the quick call, of the full one with the same budget, and of the full one with 256.
+fn measure(s: &[u8], cut: u32) -> (u32, [f64; 3]) {
+    let calls: [Call; 3] = [(calls::quick, 64), (calls::verdict, 64), (calls::verdict, 256)];
+    let mut buffer = vec![0u8; FRONT + 40 * 256];
+    let mut answers = [0; 3];
+    let mut times = [vec![], vec![], vec![]];
+    for round in 0..1000 {
+        // Each call comes first, second and third equally often.
+        for i in (0..3).map(|k| (k + round) % 3) {
+            let (call, budget) = calls[i];
+            let begin = Instant::now();
+            answers[i] = call(s, cut, budget, &mut buffer);
+            times[i].push(begin.elapsed().as_secs_f64() * 1e6);
+        }
+        assert!(answers[0] == answers[1] && answers[1] == answers[2], "the calls differ: {answers:?}");
+    }
+    (answers[0], times.map(median))
+}
+
+fn main() {
+    let kinds: [(&str, fn(usize) -> Parts); 10] = [
+        ("joins", kinds::joins),
+        ("sums", kinds::sums),
+        ("seals", kinds::seals),
+        ("mixed", kinds::mixed),
+        ("stuck", kinds::stuck),
+        ("random", kinds::random),
+        ("names", kinds::names),
+        ("serials", kinds::serials),
+        ("locks", kinds::locks),
+        ("openers", kinds::openers),
+    ];
+    println!("                                           full call, us    quick to full");
+    println!("sheet       n   quick us   budget 64   budget 256    at budget 64   verdict and rungs");
+    let mut ratios = vec![];
+    for (name, make) in kinds {
+        for n in [8, 16, 24, 32, 40, 48, 56, 64] {
+            let (entries, heard, goal) = make(n);
+            let (answer, [quick, same, full]) = measure(&sheet(&entries, &heard, goal), heard.len() as u32);
+            let verdict = if answer < 2000 { "reached" } else { "out of reach" };
+            println!("{name:8} {n:4} {quick:10.1} {same:11.1} {full:12.1} {:15.3}   {verdict} {}", quick / same, answer % 1000);
+            ratios.push(quick / same);
+        }
+    }
+    ratios.sort_by(|a, b| a.partial_cmp(b).unwrap());
+    println!("quick to full at the same budget: least {:.3}, middle {:.3}, most {:.3} of {} sheets", ratios[0], ratios[ratios.len() / 2], ratios[ratios.len() - 1], ratios.len());
+}
