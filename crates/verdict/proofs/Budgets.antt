@@ -1,22 +1,25 @@
 -- Two calls on one sheet, at one cut and by the same rules, with any two limits, budgets and buffers (document 02, E7).
 -- Shown, from the demands alone: `settled-same`, two answers that are neither refused nor stopped are the same number, with the same rungs, gained set, used
--- set and remainder; `demands-agree`, so each agrees with every other. By the law of two budgets, `course-settled`. Assumes nothing.
-use mathlib.Core.Path.{_≡_, ap, _∙_}
+-- set and remainder; `demands-agree`, so each agrees with every other. By the law of two budgets, `course-settled`. `settled-enough`: a call with a budget of at
+-- least the number of entries is refused or settled; `settled-full`: so every settled answer is that of the full call with budget 256. Assumes nothing.
+use mathlib.Core.Path.{_≡_, refl, sym, ap, _∙_}
 use mathlib.Core.List.{List}
-use Prim.Native.Nat.{ℕ, _+_, _≤_}
+use Prim.Native.Nat.{ℕ, _+_, _*_, _≤_}
 use native.Mathlib.Omega.{arith}
-use lib.ListN.{length}
+use lib.ListN.{length, replicate, length-replicate}
 use Rattle.deduction.specs.Setting.{Setting}
-use Rattle.deduction.specs.Course.{Verdict, exhausted}
+use Rattle.deduction.specs.Course.{Verdict, derivable, underivable, exhausted}
 use Rattle.deduction.proofs.Steps.Course.{course-settled}
 use Rattle.dag.specs.Sheet.{countOf, goalOf, traceLength}
 use Rattle.dag.specs.Record.{entryAt}
 use Rattle.dag.specs.Refusal.{refusal}
 use Rattle.dag.proofs.Laws.Good.{good}
-use Rattle.verdict.specs.Buffer.{gainedIn, usedIn, remainderIn, stepsIn}
+use Rattle.verdict.specs.Buffer.{front, gainedIn, usedIn, remainderIn, stepsIn}
+use Rattle.verdict.specs.Refused.{fullLimit, refusalOf}
 use Rattle.verdict.specs.Demands.{verdictCode, Meets, Demanded}
 use Rattle.verdict.specs.Agrees.{Settled, Agrees}
-use Rattle.verdict.proofs.Laws.Answered.{ok-sheet, ok-cut}
+use Rattle.verdict.specs.Answer.{answerOf, bufferOf}
+use Rattle.verdict.proofs.Laws.Answered.{ok-sheet, ok-cut, accepted, equations-demand}
 use Rattle.verdict.proofs.Laws.Demands.{start-is-heads}
 use Rattle.verdict.proofs.Reading.{answer-judged}
 use Rattle.verdict.proofs.Unique.{same-work}
@@ -38,3 +41,35 @@ demands-agree {limit = l} {s} {cut} {budget = b} {old = o} d limit budget old ou
     let j = answer-judged d (omega (arith, a .0)) in
     let j′ = answer-judged d′ (omega (arith, a′ .0)) in
     settled-same (ok-sheet l s cut b (length o) j) (ok-cut l s cut b (length o) j) (d .judged j) (d′ .judged j′) a a′ .0
+
+-- with a budget of at least the number of entries, a call that isn't refused isn't stopped
+pub settled-enough : {on : Setting} {limit : ℕ} {s : List ℕ} {cut budget : ℕ} {old out : List ℕ} {answer : ℕ} → Demanded on limit s cut budget old out answer
+    → refusalOf limit s cut budget (length old) ≡ 0 → countOf s ≤ budget → Settled answer
+settled-enough {on} {limit} {s} {cut} {budget} {old} {out} {answer} d judged enough = go (m .verdict) refl
+  where
+    m : Meets on s cut budget old out answer
+    m = d .judged judged
+
+    few : m .count ≤ 256
+    few = omega (arith, m .few, good s (ok-sheet limit s cut budget (length old) judged) .few)
+
+    named : (v : Verdict) → m .verdict ≡ v → answer ≡ verdictCode v + m .count
+    named v p = m .coded ∙ ap (λ (w : Verdict). verdictCode w + m .count) p
+
+    go : (v : Verdict) → m .verdict ≡ v → Settled answer
+    go derivable p = (omega (arith, named derivable p), omega (arith, named derivable p, few))
+    go underivable p = (omega (arith, named underivable p), omega (arith, named underivable p, few))
+    go exhausted p = absurd (omega (arith, ap verdictCode (sym p ∙ m .otherwise enough (λ q. omega (arith, ap verdictCode (sym p ∙ q))))))
+
+-- so a settled answer is that of the full call, whose budget of 256 is enough for every sheet
+pub settled-full : {on : Setting} {limit : ℕ} {s : List ℕ} {cut budget : ℕ} {old out : List ℕ} {answer : ℕ} → Demanded on limit s cut budget old out answer → Settled answer
+    → answer ≡ answerOf on fullLimit s cut 256 (front + 40 * 256)
+settled-full {on} {limit} {s} {cut} {budget} {old} d a =
+    let j = answer-judged d (omega (arith, a .0)) in
+    let ok = ok-sheet limit s cut budget (length old) j in
+    let buffer : List ℕ = replicate (front + 40 * 256) 0 in
+    let size : length buffer ≡ front + 40 * 256 = length-replicate {A = ℕ} (front + 40 * 256) 0 in
+    let fine : refusalOf fullLimit s cut 256 (length buffer) ≡ 0 = sym (accepted fullLimit s cut 256 (length buffer) ok (ok-cut limit s cut budget (length old) j) (omega arith) (omega (arith, size))) in
+    let full = equations-demand on fullLimit s cut 256 buffer (bufferOf on fullLimit s cut 256 buffer) (answerOf on fullLimit s cut 256 (length buffer)) refl refl in
+    demands-agree d fullLimit 256 buffer (bufferOf on fullLimit s cut 256 buffer) (answerOf on fullLimit s cut 256 (length buffer)) full a (settled-enough full fine (good s ok .few))
+    ∙ ap (answerOf on fullLimit s cut 256) size
