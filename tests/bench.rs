@@ -86,23 +86,9 @@ fn card(name: &str, (entries, heard, goal): Parts) {
 
 fn main() {
     // `mixed` and `stuck` end out of reach, and so does every cut of the two cards: since request E5 such a call makes one sum test more, of the goal.
-    // `serials` is `names` with every atom in the long record of request E10. `locks` and `openers` have the key pairs of request E6: `locks` is the work
-    // of `seals` by rule 7, and in `openers` the half that opens a lock is to be found above it.
-    let kinds: [(&str, fn(usize) -> Parts); 10] = [
-        ("joins", kinds::joins),
-        ("sums", kinds::sums),
-        ("seals", kinds::seals),
-        ("mixed", kinds::mixed),
-        ("stuck", kinds::stuck),
-        ("random", kinds::random),
-        ("names", kinds::names),
-        ("serials", kinds::serials),
-        ("locks", kinds::locks),
-        ("openers", kinds::openers),
-    ];
     println!("                              plain Rust, us            ratio to          with a setting, ratio");
     println!("sheet       n   library us   by value       lent   by value   lent       us   to the verdict   verdict and rungs");
-    for (name, make) in kinds {
+    for (name, make) in kinds::BY_NAME {
         let mut times = vec![];
         for n in [32, 64, 128, 256] {
             let (entries, heard, goal) = make(n);

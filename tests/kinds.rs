@@ -6,6 +6,21 @@ use super::sheets::{Entry, Random};
 
 pub type Parts = (Vec<Entry>, Vec<u16>, u16);
 
+// The kinds that the benchmarks go through. `serials` is `names` with every atom in the long record of request E10. `locks` and `openers` have the key pairs
+// of request E6: `locks` is the work of `seals` by rule 7, and in `openers` the half that opens a lock is to be found above it.
+pub const BY_NAME: [(&str, fn(usize) -> Parts); 10] = [
+    ("joins", joins),
+    ("sums", sums),
+    ("seals", seals),
+    ("mixed", mixed),
+    ("stuck", stuck),
+    ("random", random),
+    ("names", names),
+    ("serials", serials),
+    ("locks", locks),
+    ("openers", openers),
+];
+
 // The atom with this number and 1,000.
 fn atom(i: u16) -> Entry {
     Entry::Atom(1000 + u32::from(i))

@@ -7,7 +7,6 @@ mod calls;
 mod kinds;
 #[allow(dead_code)]
 mod sheets;
-use kinds::Parts;
 use sheets::{sheet, FRONT};
 use std::time::Instant;
 
@@ -38,22 +37,10 @@ fn measure(s: &[u8], cut: u32) -> (u32, [f64; 3]) {
 }
 
 fn main() {
-    let kinds: [(&str, fn(usize) -> Parts); 10] = [
-        ("joins", kinds::joins),
-        ("sums", kinds::sums),
-        ("seals", kinds::seals),
-        ("mixed", kinds::mixed),
-        ("stuck", kinds::stuck),
-        ("random", kinds::random),
-        ("names", kinds::names),
-        ("serials", kinds::serials),
-        ("locks", kinds::locks),
-        ("openers", kinds::openers),
-    ];
     println!("                                           full call, us    quick to full");
     println!("sheet       n   quick us   budget 64   budget 256    at budget 64   verdict and rungs");
     let mut ratios = vec![];
-    for (name, make) in kinds {
+    for (name, make) in kinds::BY_NAME {
         for n in [8, 16, 24, 32, 40, 48, 56, 64] {
             let (entries, heard, goal) = make(n);
             let (answer, [quick, same, full]) = measure(&sheet(&entries, &heard, goal), heard.len() as u32);
