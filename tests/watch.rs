@@ -50,11 +50,12 @@ impl Checks {
         self.check(&format!("{what}: {} {:?} {}", run.status, run.text(), run.err), run.status == status && run.text() == shown && run.err.is_empty());
     }
 
-    // It shows what judge says, after these lines.
+    // It shows what judge says, after these lines, and then the notes that judge has on standard error.
     fn as_judged(&mut self, what: &str, text: &str, before: &str) {
         self.file("b.sheet", text);
         let run = self.run(&["judge", "b.sheet"], b"");
-        self.shows(what, text, &(before.to_string() + &without_cuts(&run.text())), run.status);
+        let notes = run.err.replace("b.sheet", "a.sheet");
+        self.shows(what, text, &(before.to_string() + &without_cuts(&run.text()) + &notes), run.status);
     }
 
     fn wrong_usage(&mut self, words: &[&str], part: &str) {
@@ -88,11 +89,7 @@ fn examples(c: &mut Checks, root: &PathBuf) {
     c.check("there are examples", paths.len() >= 44);
     for path in paths {
         let text = fs::read_to_string(&path).expect("an example can be read");
-        let judged = c.run(&["judge", path.to_str().unwrap_or("")], b"");
-        // The notes of a text go to standard error from judge, and are shown by watch.
-        let notes = judged.err.replace(path.to_str().unwrap_or(""), "a.sheet");
-        let shown = without_cuts(&judged.text()) + &notes;
-        c.shows(&format!("{}", path.display()), &text, &shown, judged.status);
+        c.as_judged(&format!("{}", path.display()), &text, "");
         c.run(&["assemble", "a.sheet", "-o", "a.bytes"], b"");
         let [bytes, of_bytes] = [&["watch", "--once", "a.bytes"][..], &["judge", "a.bytes"]].map(|words| c.run(words, b""));
         c.check("the same of its bytes", bytes.status == of_bytes.status && bytes.text() == without_cuts(&of_bytes.text()));
@@ -100,6 +97,10 @@ fn examples(c: &mut Checks, root: &PathBuf) {
 }
 
 fn bad_texts(c: &mut Checks) {
+    c.as_judged("two names of one atom", "k atom 1007\ng atom\nm atom 1007\ngoal g\n", "");
+    let shown = c.run(&["watch", "--once", "a.sheet"], b"").text();
+    let note = "a.sheet:3:1: note: \"m\" and \"k\" (line 1) are one term";
+    c.check(&format!("the note: {shown}"), shown.lines().last().map_or(false, |line| line.starts_with(note)));
     let unknown = "expected the number or name of an entry declared above\n";
     c.shows("a fault in the second line", "a atom\nb pair a c\ngoal b\n", &format!("a.sheet:2:10: entry \"c\" isn't declared above, {unknown}2 | b pair a c\n  |          ^\n"), 1);
     let many = "# a line\n".repeat(11);
@@ -185,6 +186,19 @@ fn on_a_terminal(c: &mut Checks) {
     c.check("the terminal as it was", t.comes_to(|screen| !screen.other && screen.cursor && screen.wraps));
 }
 
+// What can't be watched is told, and the watch ends as any other.
+fn no_regular_file(c: &mut Checks) {
+    let made = Command::new("mkfifo").arg(c.dir.join("pipe")).status().map_or(false, |status| status.success());
+    c.check("a pipe is made", made && fs::create_dir(c.dir.join("folder")).is_ok());
+    for name in ["pipe", "folder"] {
+        let mut t = Terminal::new(12, 86);
+        let child = c.watching(name, t.far.try_clone().expect("another handle").into());
+        let told = format!("{name}: can't be watched, expected a regular file");
+        c.check(&told, t.comes_to(|screen| screen.lines().get(1) == Some(&told)));
+        c.ends(name, child, SIGINT);
+    }
+}
+
 fn ended_otherwise(c: &mut Checks) {
     for number in [SIGTERM, SIGHUP] {
         let mut t = Terminal::new(12, 86);
@@ -231,6 +245,7 @@ fn main() {
     stopped(&mut c);
     usage(&mut c);
     on_a_terminal(&mut c);
+    no_regular_file(&mut c);
     ended_otherwise(&mut c);
     in_a_file(&mut c);
     let _ = fs::remove_dir_all(&c.dir);

@@ -10,6 +10,7 @@ use super::screen::{self, Screen};
 use super::verdict::{quick, verdict, Verdict, QUICK_BUDGET, QUICK_STOPPED};
 use super::words::{Fault, Place};
 use super::{at, files, text, BAD_INPUT, DONE, REACHED};
+use std::fs::Metadata;
 use std::os::unix::fs::MetadataExt;
 use std::time::{Duration, SystemTime};
 
@@ -119,10 +120,22 @@ pub fn look(file: &File) -> Shown {
     shown(file, &files::read(file))
 }
 
+fn found(file: &File) -> Option<Metadata> {
+    let File::Named(name) = file else { return None };
+    std::fs::metadata(name).ok()
+}
+
+// The file's content. A pipe isn't read: it may have no writer, and would then be waited for through every interrupt.
+fn content(file: &File) -> Result<Vec<u8>, String> {
+    if found(file).map_or(false, |found| !found.is_file()) {
+        return Err(format!("{}: can't be watched, expected a regular file", files::name(file)));
+    }
+    files::read(file)
+}
+
 // By what a change of the file is noticed without reading it; nothing where it may go unnoticed.
 fn stamp(file: &File) -> Option<(u64, u64, u64, SystemTime)> {
-    let File::Named(name) = file else { return None };
-    let found = std::fs::metadata(name).ok()?;
+    let found = found(file)?;
     let changed = found.modified().ok()?;
     let settled = changed.elapsed().map_or(false, |age| age > LATELY);
     settled.then(|| (found.dev(), found.ino(), found.len(), changed))
@@ -137,7 +150,7 @@ pub fn watch(file: &File) -> Result<(), String> {
     while !screen::ended() {
         let now = stamp(file);
         if now.is_none() || now != seen {
-            let new = files::read(file);
+            let new = content(file);
             if new == read && judged.as_ref() != Some(&new) {
                 screen.show(&shown(file, &new).text)?;
                 judged = Some(new.clone());
