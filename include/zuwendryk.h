@@ -192,10 +192,10 @@ extern "C" {
 #define ZUWENDRYK_SWITCH(rule) (1 << ((rule) - 1))
 #define ZUWENDRYK_EVERY_RULE 255
 
-/* QUICK. zuwendryk_quick_verdict is the verdict with every rule on for a budget of at most ZUWENDRYK_QUICK_RUNGS; a greater one is refused with 9. So the
- * time of a call and the length of its buffer, at most 2,656 bytes, are known beforehand. With the same budget it gives the answer and the bytes of
- * zuwendryk_verdict. Where it says reached or out of reach, zuwendryk_verdict gives the same number with every budget with which it isn't stopped. On
- * a sheet of up to 64 entries it is never stopped with a budget of 64. Where it is stopped, ask zuwendryk_verdict. */
+/* QUICK. zuwendryk_quick_verdict is the verdict with every rule on for a budget of at most ZUWENDRYK_QUICK_RUNGS; a greater one is refused with 9. Its
+ * buffer needs at most 2,656 bytes, and its time is that of at most 64 rungs. With the same budget it gives the answer and the bytes of
+ * zuwendryk_verdict. Where it says reached or out of reach, zuwendryk_verdict says the same number with every budget, unless it is refused or stopped.
+ * On a sheet of up to 64 entries it is never stopped with a budget of 64. Where it is stopped, ask zuwendryk_verdict. */
 
 /* ANSWERS of the verdicts: a refusal's number, or a verdict's number plus the number of rungs made, 0 to 256. So an answer below
  * ZUWENDRYK_REACHED is a refusal, and of any other answer / 1000 * 1000 is the verdict and answer % 1000 the rungs. */
