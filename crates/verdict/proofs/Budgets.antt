@@ -21,18 +21,18 @@ use Rattle.verdict.specs.Agrees.{Settled, Agrees}
 use Rattle.verdict.specs.Answer.{answerOf, bufferOf}
 use Rattle.verdict.proofs.Laws.Answered.{ok-sheet, ok-cut, accepted, equations-demand}
 use Rattle.verdict.proofs.Laws.Demands.{start-is-heads}
-use Rattle.verdict.proofs.Reading.{answer-judged}
+use Rattle.verdict.proofs.Reading.{answer-judged, at-most, named}
 use Rattle.verdict.proofs.Unique.{same-work}
 
 -- a settled answer isn't that of a stopped call
-settled-ends : {on : Setting} {s : List ℕ} {cut budget : ℕ} {old out : List ℕ} {answer : ℕ} (m : Meets on s cut budget old out answer) → Settled answer → ¬ (m .verdict ≡ exhausted)
-settled-ends m (l, h) p = omega (arith, m .coded ∙ ap (λ (v : Verdict). verdictCode v + m .count) p)
+settled-ends : {on : Setting} {s : List ℕ} {cut budget : ℕ} {old out : List ℕ} {answer : ℕ} → refusal s ≡ 0 → (m : Meets on s cut budget old out answer) → Settled answer → ¬ (m .verdict ≡ exhausted)
+settled-ends ok m (l, h) p = omega (arith, named ok m exhausted p)
 
 pub settled-same : {on : Setting} {s : List ℕ} {cut b c : ℕ} {old out old′ out′ : List ℕ} {answer answer′ : ℕ} → refusal s ≡ 0 → cut ≤ traceLength s
     → (m : Meets on s cut b old out answer) (m′ : Meets on s cut c old′ out′ answer′) → Settled answer → Settled answer′
     → (answer ≡ answer′) × (stepsIn out (m .count) ≡ stepsIn out′ (m′ .count)) × (gainedIn out ≡ gainedIn out′) × (usedIn out ≡ usedIn out′) × (remainderIn out ≡ remainderIn out′)
 settled-same {on} {s} {cut} {b} ok within m m′ a a′ =
-    let (steps, verdicts) = course-settled (entryAt s) (countOf s) (good s ok .downward) (goalOf s) (start-is-heads on s cut b ok within) (m .course) (m′ .course) (settled-ends m a) (settled-ends m′ a′) in
+    let (steps, verdicts) = course-settled (entryAt s) (countOf s) (good s ok .downward) (goalOf s) (start-is-heads on s cut b ok within) (m .course) (m′ .course) (settled-ends ok m a) (settled-ends ok m′ a′) in
     same-work on s cut b ok within m m′ steps verdicts
 
 -- "its reached and out of reach agree with the full call at any budget where that is neither refused nor stopped"
@@ -47,18 +47,15 @@ pub settled-enough : {on : Setting} {limit : ℕ} {s : List ℕ} {cut budget : �
     → refusalOf limit s cut budget (length old) ≡ 0 → countOf s ≤ budget → Settled answer
 settled-enough {on} {limit} {s} {cut} {budget} {old} {out} {answer} d judged enough = go (m .verdict) refl
   where
+    ok : refusal s ≡ 0
+    ok = ok-sheet limit s cut budget (length old) judged
+
     m : Meets on s cut budget old out answer
     m = d .judged judged
 
-    few : m .count ≤ 256
-    few = omega (arith, m .few, good s (ok-sheet limit s cut budget (length old) judged) .few)
-
-    named : (v : Verdict) → m .verdict ≡ v → answer ≡ verdictCode v + m .count
-    named v p = m .coded ∙ ap (λ (w : Verdict). verdictCode w + m .count) p
-
     go : (v : Verdict) → m .verdict ≡ v → Settled answer
-    go derivable p = (omega (arith, named derivable p), omega (arith, named derivable p, few))
-    go underivable p = (omega (arith, named underivable p), omega (arith, named underivable p, few))
+    go derivable p = (omega (arith, named ok m derivable p), omega (arith, named ok m derivable p, at-most ok m))
+    go underivable p = (omega (arith, named ok m underivable p), omega (arith, named ok m underivable p, at-most ok m))
     go exhausted p = absurd (omega (arith, ap verdictCode (sym p ∙ m .otherwise enough (λ q. omega (arith, ap verdictCode (sym p ∙ q))))))
 
 -- so a settled answer is that of the full call, whose budget of 256 is enough for every sheet

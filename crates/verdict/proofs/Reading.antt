@@ -53,10 +53,10 @@ answer-judged {on} {limit} {s} {cut} {budget} {old} d h =
 
 module _ {on : Setting} {s : List ℕ} {cut budget : ℕ} {old out : List ℕ} {answer : ℕ} (ok : refusal s ≡ 0) (m : Meets on s cut budget old out answer) where
   -- the number names the verdict
-  at-most : m .count ≤ 256
+  pub at-most : m .count ≤ 256
   at-most = omega (arith, m .few, good s ok .few)
 
-  named : (v : Verdict) → m .verdict ≡ v → answer ≡ verdictCode v + m .count
+  pub named : (v : Verdict) → m .verdict ≡ v → answer ≡ verdictCode v + m .count
   named v p = m .coded ∙ ap (λ (w : Verdict). verdictCode w + m .count) p
 
   pub is-reached : answer < 2000 → m .verdict ≡ derivable
