@@ -1,5 +1,6 @@
 // The quick call as an editor makes it while a sheet is typed: on sheets of 8 to 64 entries, with a budget of 64, beside the full call with the same budget and
-// with 256. Interleaved in one run, the median of many calls each. Not part of the gate: it measures, and judges nothing.
+// with 256; then on larger sheets, where it may be stopped. Interleaved in one run, the median of many calls each. Not part of the gate: it measures, and judges
+// nothing.
 
 #[allow(dead_code)]
 mod calls;
@@ -17,8 +18,8 @@ fn median(mut times: Vec<f64>) -> f64 {
     times[times.len() / 2]
 }
 
-// The answer, and the microseconds of the quick call, of the full one with the same budget, and of the full one with 256.
-fn measure(s: &[u8], cut: u32) -> (u32, [f64; 3]) {
+// The answers and the microseconds of the quick call, of the full one with the same budget, and of the full one with 256.
+fn measure(s: &[u8], cut: u32) -> ([u32; 3], [f64; 3]) {
     let calls: [Call; 3] = [(calls::quick, 64), (calls::verdict, 64), (calls::verdict, 256)];
     let mut buffer = vec![0u8; FRONT + 40 * 256];
     let mut answers = [0; 3];
@@ -31,24 +32,36 @@ fn measure(s: &[u8], cut: u32) -> (u32, [f64; 3]) {
             answers[i] = call(s, cut, budget, &mut buffer);
             times[i].push(begin.elapsed().as_secs_f64() * 1e6);
         }
-        assert!(answers[0] == answers[1] && answers[1] == answers[2], "the calls differ: {answers:?}");
+        assert!(answers[0] == answers[1], "the calls differ: {answers:?}");
     }
-    (answers[0], times.map(median))
+    (answers, times.map(median))
 }
 
-fn main() {
-    println!("                                           full call, us    quick to full");
-    println!("sheet       n   quick us   budget 64   budget 256    at budget 64   verdict and rungs");
+fn words(answer: u32) -> String {
+    format!("{} {}", ["reached", "out of reach", "stopped"][(answer / 1000 - 1) as usize], answer % 1000)
+}
+
+// A row for each kind and size. Hands back how many times as long as the full call with the same budget each quick call takes.
+fn rows(sizes: &[usize]) -> Vec<f64> {
+    println!("                        full call, us             quick to full   verdict and rungs:");
+    println!("sheet       n   quick us   budget 64   budget 256   at budget 64   the quick call, the full one with 256");
     let mut ratios = vec![];
     for (name, make) in kinds::BY_NAME {
-        for n in [8, 16, 24, 32, 40, 48, 56, 64] {
-            let (entries, heard, goal) = make(n);
-            let (answer, [quick, same, full]) = measure(&sheet(&entries, &heard, goal), heard.len() as u32);
-            let verdict = if answer < 2000 { "reached" } else { "out of reach" };
-            println!("{name:8} {n:4} {quick:10.1} {same:11.1} {full:12.1} {:15.3}   {verdict} {}", quick / same, answer % 1000);
+        for n in sizes {
+            let (entries, heard, goal) = make(*n);
+            let (answers, [quick, same, full]) = measure(&sheet(&entries, &heard, goal), heard.len() as u32);
+            let verdicts = if answers[0] == answers[2] { words(answers[0]) } else { format!("{}, {}", words(answers[0]), words(answers[2])) };
+            println!("{name:8} {n:4} {quick:10.1} {same:11.1} {full:12.1} {:14.3}   {verdicts}", quick / same);
             ratios.push(quick / same);
         }
     }
+    ratios
+}
+
+fn main() {
+    let mut ratios = rows(&[8, 16, 24, 32, 40, 48, 56, 64]);
     ratios.sort_by(|a, b| a.partial_cmp(b).unwrap());
-    println!("quick to full at the same budget: least {:.3}, middle {:.3}, most {:.3} of {} sheets", ratios[0], ratios[ratios.len() / 2], ratios[ratios.len() - 1], ratios.len());
+    let [least, middle, most] = [0, ratios.len() / 2, ratios.len() - 1].map(|i| ratios[i]);
+    println!("quick to full at the same budget: least {least:.3}, middle {middle:.3}, most {most:.3} of {} sheets", ratios.len());
+    rows(&[128, 256]);
 }

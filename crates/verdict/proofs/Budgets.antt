@@ -1,7 +1,8 @@
 -- Two calls on one sheet, at one cut and by the same rules, with any two limits, budgets and buffers (document 02, E7).
 -- Shown, from the demands alone: `settled-same`, two answers that are neither refused nor stopped are the same number, with the same rungs, gained set, used
--- set and remainder; `demands-agree`, so each agrees with every other. By the law of two budgets, `course-settled`. `settled-enough`: a call with a budget of at
--- least the number of entries is refused or settled; `settled-full`: so every settled answer is that of the full call with budget 256. Assumes nothing.
+-- set and remainder; `demands-agree`, so each agrees with every other. By the law of two budgets, `course-settled`. `rungs-within`: at most as many rungs as
+-- the limit; `settled-enough`: a call with a budget of at least the number of entries is refused or settled; `settled-full`: so every settled answer is that of
+-- the full call with budget 256. Assumes nothing.
 use mathlib.Core.Path.{_≡_, refl, sym, ap, _∙_}
 use mathlib.Core.List.{List}
 use Prim.Native.Nat.{ℕ, _+_, _*_, _≤_}
@@ -9,7 +10,7 @@ use native.Mathlib.Omega.{arith}
 use lib.ListN.{length, replicate, length-replicate}
 use Rattle.deduction.specs.Setting.{Setting}
 use Rattle.deduction.specs.Course.{Verdict, derivable, underivable, exhausted}
-use Rattle.deduction.proofs.Steps.Course.{course-settled}
+use Rattle.deduction.proofs.Steps.Course.{course-budget, course-settled}
 use Rattle.dag.specs.Sheet.{countOf, goalOf, traceLength}
 use Rattle.dag.specs.Record.{entryAt}
 use Rattle.dag.specs.Refusal.{refusal}
@@ -19,10 +20,10 @@ use Rattle.verdict.specs.Refused.{fullLimit, refusalOf}
 use Rattle.verdict.specs.Demands.{verdictCode, Meets, Demanded}
 use Rattle.verdict.specs.Agrees.{Settled, Agrees}
 use Rattle.verdict.specs.Answer.{answerOf, bufferOf}
-use Rattle.verdict.proofs.Laws.Answered.{ok-sheet, ok-cut, accepted, equations-demand}
+use Rattle.verdict.proofs.Laws.Answered.{ok-sheet, ok-cut, ok-budget, accepted, equations-demand}
 use Rattle.verdict.proofs.Laws.Demands.{start-is-heads}
 use Rattle.verdict.proofs.Reading.{answer-judged, at-most, named}
-use Rattle.verdict.proofs.Unique.{same-work}
+use Rattle.verdict.proofs.Unique.{steps-count, same-work}
 
 -- a settled answer isn't that of a stopped call
 settled-ends : {on : Setting} {s : List ℕ} {cut budget : ℕ} {old out : List ℕ} {answer : ℕ} → refusal s ≡ 0 → (m : Meets on s cut budget old out answer) → Settled answer → ¬ (m .verdict ≡ exhausted)
@@ -41,6 +42,12 @@ demands-agree {limit = l} {s} {cut} {budget = b} {old = o} d limit budget old ou
     let j = answer-judged d (omega (arith, a .0)) in
     let j′ = answer-judged d′ (omega (arith, a′ .0)) in
     settled-same (ok-sheet l s cut b (length o) j) (ok-cut l s cut b (length o) j) (d .judged j) (d′ .judged j′) a a′ .0
+
+-- "a quick entry point of at most 64 rungs": a call that isn't refused makes at most as many rungs as its limit allows
+pub rungs-within : {on : Setting} {limit : ℕ} {s : List ℕ} {cut budget : ℕ} {old out : List ℕ} {answer : ℕ} (d : Demanded on limit s cut budget old out answer)
+    (judged : refusalOf limit s cut budget (length old) ≡ 0) → d .judged judged .count ≤ limit
+rungs-within {limit = limit} {s} {cut} {budget} {old} {out = out} d judged =
+    let m = d .judged judged in omega (arith, steps-count out (m .count), course-budget (m .course), ok-budget limit s cut budget (length old) judged)
 
 -- with a budget of at least the number of entries, a call that isn't refused isn't stopped
 pub settled-enough : {on : Setting} {limit : ℕ} {s : List ℕ} {cut budget : ℕ} {old out : List ℕ} {answer : ℕ} → Demanded on limit s cut budget old out answer

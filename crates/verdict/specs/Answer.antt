@@ -1,6 +1,6 @@
 -- What a verdict call answers and writes, for every input (document 01: "Rungs", "Grounding table").
--- The same promise as `Demanded` (specs/Demands.antt), as equations with the run, for each setting of the rules and each limit on the budget. Defined: `outcomeOf`, `answerOf`,
--- `missingOf`, `frontOf`, `bufferOf`.
+-- The same promise as `Demanded` (specs/Demands.antt), as equations with the run, for each setting of the rules and each limit on the budget.
+-- Defined: `outcomeOf`, `answerOf`, `missingOf`, `frontOf`, `bufferOf`.
 use Prim.Native.Nat.{ℕ, _+_, _*_}
 use mathlib.Core.Bool.{cond}
 use mathlib.Core.List.{List, _++_}

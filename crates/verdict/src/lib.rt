@@ -75,7 +75,7 @@ fn decide(s: &[u8], cut: u16, budget: u16, rules: u8, out: &mut [u8]) -> Ended
 fn judged(s: &[u8], cut: u16, budget: u16, rules: u8, out: &mut [u8]) -> Answer
     requires { ⌜ (refusal (now s) ≡ 0) × (cut ≤ traceLength (now s)) × (budget ≤ 256) × (front + 40 * budget ≤ length (now out)) ⌝ }
     ensures answer { λ r. ⌜ numberOf r ≡ answerOf (switches rules) fullLimit (now (s .entry)) cut budget (length (now (out .entry))) ⌝ }
-    ensures few { λ r. ⌜ madeIn r ≤ 256 ⌝ }
+    ensures few { λ r. ⌜ madeIn r ≤ budget ⌝ }
     ensures bytes { λ _. ⌜ now (out .exit) ≡ bufferOf (switches rules) fullLimit (now (s .entry)) cut budget (now (out .entry)) ⌝ }
 {
     let ended = decide(s, cut, budget, rules, out);
@@ -114,7 +114,7 @@ fn refused(limit: u32, sheet: &[u8], cut: u32, budget: u32, space: usize) -> Ref
 fn within(limit: u32, sheet: &[u8], cut: u32, budget: u32, rules: u8, out: &mut [u8]) -> Answer
     requires { ⌜ limit ≤ 256 ⌝ }
     ensures answer { λ r. ⌜ numberOf r ≡ answerOf (switches rules) limit (now (sheet .entry)) cut budget (length (now (out .entry))) ⌝ }
-    ensures few { λ r. ⌜ madeIn r ≤ 256 ⌝ }
+    ensures few { λ r. ⌜ madeIn r ≤ limit ⌝ }
     ensures bytes { λ _. ⌜ now (out .exit) ≡ bufferOf (switches rules) limit (now (sheet .entry)) cut budget (now (out .entry)) ⌝ }
     ensures demands { λ r. ⌜ Demanded (switches rules) limit (now (sheet .entry)) cut budget (now (out .entry)) (now (out .exit)) (numberOf r) ⌝ }
     ensures agrees { λ r. ⌜ Agrees (switches rules) (now (sheet .entry)) cut (numberOf r) ⌝ }
@@ -133,7 +133,7 @@ fn within(limit: u32, sheet: &[u8], cut: u32, budget: u32, rules: u8, out: &mut 
 // The verdict call by the rules switched on.
 pub fn limited(sheet: &[u8], cut: u32, budget: u32, rules: u8, out: &mut [u8]) -> Answer
     ensures answer { λ r. ⌜ numberOf r ≡ answerOf (switches rules) fullLimit (now (sheet .entry)) cut budget (length (now (out .entry))) ⌝ }
-    ensures few { λ r. ⌜ madeIn r ≤ 256 ⌝ }
+    ensures few { λ r. ⌜ madeIn r ≤ fullLimit ⌝ }
     ensures bytes { λ _. ⌜ now (out .exit) ≡ bufferOf (switches rules) fullLimit (now (sheet .entry)) cut budget (now (out .entry)) ⌝ }
     ensures demands { λ r. ⌜ Demanded (switches rules) fullLimit (now (sheet .entry)) cut budget (now (out .entry)) (now (out .exit)) (numberOf r) ⌝ }
     ensures agrees { λ r. ⌜ Agrees (switches rules) (now (sheet .entry)) cut (numberOf r) ⌝ }
@@ -144,7 +144,7 @@ pub fn limited(sheet: &[u8], cut: u32, budget: u32, rules: u8, out: &mut [u8]) -
 // The verdict call with every rule on.
 pub fn verdict(sheet: &[u8], cut: u32, budget: u32, out: &mut [u8]) -> Answer
     ensures answer { λ r. ⌜ numberOf r ≡ answerOf every fullLimit (now (sheet .entry)) cut budget (length (now (out .entry))) ⌝ }
-    ensures few { λ r. ⌜ madeIn r ≤ 256 ⌝ }
+    ensures few { λ r. ⌜ madeIn r ≤ fullLimit ⌝ }
     ensures bytes { λ _. ⌜ now (out .exit) ≡ bufferOf every fullLimit (now (sheet .entry)) cut budget (now (out .entry)) ⌝ }
     ensures demands { λ r. ⌜ Demanded every fullLimit (now (sheet .entry)) cut budget (now (out .entry)) (now (out .exit)) (numberOf r) ⌝ }
     ensures agrees { λ r. ⌜ Agrees every (now (sheet .entry)) cut (numberOf r) ⌝ }
@@ -155,7 +155,7 @@ pub fn verdict(sheet: &[u8], cut: u32, budget: u32, out: &mut [u8]) -> Answer
 // The same while a planner types: for a budget of at most 64.
 pub fn quick(sheet: &[u8], cut: u32, budget: u32, out: &mut [u8]) -> Answer
     ensures answer { λ r. ⌜ numberOf r ≡ answerOf every quickLimit (now (sheet .entry)) cut budget (length (now (out .entry))) ⌝ }
-    ensures few { λ r. ⌜ madeIn r ≤ 256 ⌝ }
+    ensures few { λ r. ⌜ madeIn r ≤ quickLimit ⌝ }
     ensures bytes { λ _. ⌜ now (out .exit) ≡ bufferOf every quickLimit (now (sheet .entry)) cut budget (now (out .entry)) ⌝ }
     ensures demands { λ r. ⌜ Demanded every quickLimit (now (sheet .entry)) cut budget (now (out .entry)) (now (out .exit)) (numberOf r) ⌝ }
     ensures agrees { λ r. ⌜ Agrees every (now (sheet .entry)) cut (numberOf r) ⌝ }

@@ -283,7 +283,7 @@ within-returns-3 t c =
     let a = e .0 ∙ answer-limits fullLimit (s .limit) (now (s .sheet)) (s .cut) (s .budget) full allowed (switches (s .rules)) (length (now (s .out))) in
     let b = e .1 .1 ∙ buffer-limits fullLimit (s .limit) (now (s .sheet)) (s .cut) (s .budget) full allowed (switches (s .rules)) (now (s .out)) in
     let d = equations-demand (switches (s .rules)) (s .limit) (now (s .sheet)) (s .cut) (s .budget) (now (s .out)) (c .before .before .judged .last .1 .1 .1 .1 .0) _ a b in
-    (a, (e .1 .0, (b, (d, demands-agree d))))
+    (a, (omega (arith, e .1 .0, allowed), (b, (d, demands-agree d))))
 
 pub +within-spec : {M : Type 1} → statement M
 +within-spec = close μ-within λ t. within-lts.spec (

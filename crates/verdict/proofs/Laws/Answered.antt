@@ -190,8 +190,9 @@ module _ (on : Setting) (limit : ℕ) (s : List ℕ) (cut budget : ℕ) (old : L
   accepted-ends = run-ends on s cut budget (ok-sheet limit s cut budget (length old) ok) (ok-cut limit s cut budget (length old) ok)
 
 -- a call that was decided: its answer and its buffer
-pub answered-few : (on : Setting) (limit : ℕ) (s : List ℕ) (cut budget : ℕ) (out out′ : List ℕ) (r : Ended) → Decided on s cut budget out out′ r → refusalOf limit s cut budget (length out) ≡ 0 → r .made ≤ 256
-answered-few on limit s cut budget out out′ r d ok = le-trans (le-of-eq (d .count)) (accepted-few on limit s cut budget out ok)
+pub answered-few : (on : Setting) (limit : ℕ) (s : List ℕ) (cut budget : ℕ) (out out′ : List ℕ) (r : Ended) → Decided on s cut budget out out′ r → refusalOf limit s cut budget (length out) ≡ 0 → r .made ≤ budget
+answered-few on limit s cut budget out out′ r d ok =
+    le-trans (le-of-eq (d .count)) (course-budget (run-is-course on s cut budget (ok-sheet limit s cut budget (length out) ok) (ok-cut limit s cut budget (length out) ok)))
 
 module _ (on : Setting) (limit : ℕ) (s : List ℕ) (cut budget : ℕ) (out out′ : List ℕ) (r : Ended) (d : Decided on s cut budget out out′ r) (ok : refusalOf limit s cut budget (length out) ≡ 0) (v : program.Verdict) (is : r .verdict ≡ v) where
   number-is : verdictCode (verdictOf v) + r .made ≡ verdictCode (outcomeOf on s cut budget .verdict) + length (outcomeOf on s cut budget .steps)
