@@ -10,8 +10,8 @@
  * which ask after every keystroke: it makes at most 64 rungs; see QUICK.
  *
  * This header is the manual: version, linking, the sheet's bytes, the rules and their switches, the quick verdict, the answers, the buffer's bytes,
- * what is missing, stack, what a caller owes and what is proved, then the four calls. examples/build.c makes a sheet and asks for its verdict; examples/verdict.c
- * reads one from a file.
+ * what is missing, stack, what a caller owes and what is proved, then the four calls. examples/build.c makes a sheet and asks for its verdict;
+ * examples/verdict.c reads one from a file.
  */
 #ifndef ZUWENDRYK_H
 #define ZUWENDRYK_H
@@ -192,9 +192,8 @@ extern "C" {
 #define ZUWENDRYK_SWITCH(rule) (1 << ((rule) - 1))
 #define ZUWENDRYK_EVERY_RULE 255
 
-/* QUICK. zuwendryk_quick_verdict is the verdict with every rule on for a budget of at most ZUWENDRYK_QUICK_RUNGS; a greater one is refused with 9. Its
- * buffer needs at most 2,656 bytes, and its time is that of at most 64 rungs. With the same budget it gives the answer and the bytes of
- * zuwendryk_verdict. Where it says reached or out of reach, zuwendryk_verdict says the same number with every budget, unless it is refused or stopped.
+/* QUICK. zuwendryk_quick_verdict is the verdict with every rule on for a budget of at most ZUWENDRYK_QUICK_RUNGS; a greater one is refused with 9. It makes at
+ * most 64 rungs, and its buffer needs at most 2,656 bytes. With a budget of at most 64 it gives the answer and the bytes of zuwendryk_verdict. Where it says reached or out of reach, zuwendryk_verdict says the same number with every budget, unless it is refused or stopped.
  * On a sheet of up to 64 entries it is never stopped with a budget of 64. Where it is stopped, ask zuwendryk_verdict. */
 
 /* ANSWERS of the verdicts: a refusal's number, or a verdict's number plus the number of rungs made, 0 to 256. So an answer below
@@ -298,9 +297,9 @@ extern "C" {
  * remainder are as said above. With ZUWENDRYK_EVERY_RULE it gives the answer and the bytes of zuwendryk_verdict. With a budget of 256, turning a switch
  * on never turns reached into out of reach, and where the goal stays out of reach no gained term is lost.
  *
- * The same is proved of zuwendryk_quick_verdict; and that with a budget of at most 64, refused or not, its answer and bytes are those of
- * zuwendryk_verdict; and that any two of its answers and those of zuwendryk_verdict on one sheet and cut, whatever the budgets, are the same number
- * where neither is refused or stopped, and so are any two of zuwendryk_limited_verdict with one byte of switches.
+ * What is said of zuwendryk_verdict is proved of zuwendryk_quick_verdict too; and that with a budget of at most 64, refused or not, its answer and bytes
+ * are those of zuwendryk_verdict; and that any two answers on one sheet and cut, each from either call and with any budget, are the same number where
+ * neither is refused or stopped. So are any two answers of zuwendryk_limited_verdict with one byte of switches.
  *
  * Making up values is no help: where a verdict is out of reach, it is proved that the goal stays so for a stranger who also starts with any finite
  * number of atoms that occur in no entry, and with all atoms 0 to 255. This is about atoms. A half of a key pair can open a lock, on the sheet or not.

@@ -249,7 +249,11 @@ fn main() {
     println!("with exactly 64 rungs: {:?} reached, out of reach and stopped; with two budgets {:?} agree, {} stopped in the quick call alone", t.at_limit, t.agreed, t.settled_later);
     println!("limits: {} passed, {} failed", t.calls - t.failures.count.min(t.calls), t.failures.count);
     let seen = t.verdicts.into_iter().chain(t.agreed).chain([t.settled_later, t.refusals[8], t.refusals[9], t.refusals[10]]).min() >= Some(1000);
-    if t.failures.count > 0 || !seen || t.at_limit.into_iter().min() < Some(3) {
+    if t.failures.count > 0 {
         std::process::exit(1);
+    }
+    if !seen || t.at_limit.into_iter().min() < Some(3) {
+        println!("limits: too few of some calls");
+        std::process::exit(2);
     }
 }

@@ -38,7 +38,16 @@ extern "C" {
 const O_RDWR: i32 = 2;
 const O_NOCTTY: i32 = 0o400;
 const O_NONBLOCK: i32 = 0o4000;
+const O_CLOEXEC: i32 = 0o2000000;
 const TIOCSWINSZ: u64 = 0x5414;
+
+// The second place of a wide letter.
+const BEHIND: char = '\0';
+
+// The places of a letter; those of East Asian scripts that the test has take two.
+fn width(c: char) -> usize {
+    if ('\u{3000}'..='\u{9fff}').contains(&c) { 2 } else { 1 }
+}
 
 // What the bytes so far have drawn.
 pub struct Screen {
@@ -49,12 +58,13 @@ pub struct Screen {
     pub cursor: bool,  // the cursor is shown
     pub wraps: bool,   // letters behind the last column go on in the next row
     pub strange: bool, // a byte that this terminal doesn't know, or a letter in the last column
+    pub left: usize,   // how often the other screen was left
     writes: Vec<(usize, usize, char)>,
 }
 
 impl Screen {
     fn new(rows: usize, columns: usize) -> Screen {
-        Screen { cells: vec![vec![' '; columns]; rows], row: 0, column: 0, other: false, cursor: true, wraps: true, strange: false, writes: vec![] }
+        Screen { cells: vec![vec![' '; columns]; rows], row: 0, column: 0, other: false, cursor: true, wraps: true, strange: false, left: 0, writes: vec![] }
     }
 
     fn put(&mut self, row: usize, column: usize, c: char) {
@@ -75,7 +85,10 @@ impl Screen {
                 (self.row + 1..self.cells.len()).for_each(|row| self.erase(row, 0));
             }
             "7m" | "m" => {}
-            "?1049h" | "?1049l" => self.other = words.ends_with('h'),
+            "?1049h" | "?1049l" => {
+                self.other = words.ends_with('h');
+                self.left += usize::from(!self.other);
+            }
             "?25h" | "?25l" => self.cursor = words.ends_with('h'),
             "?7h" | "?7l" => self.wraps = words.ends_with('h'),
             _ => self.strange = true,
@@ -87,10 +100,11 @@ impl Screen {
             '\r' => self.column = 0,
             '\n' if self.row + 1 < self.cells.len() => self.row += 1,
             // In the last column, or a line too many.
-            _ if c.is_control() || self.column + 1 >= self.cells[self.row].len() => self.strange = true,
+            _ if c.is_control() || self.column + width(c) >= self.cells[self.row].len() => self.strange = true,
             _ => {
                 self.put(self.row, self.column, c);
-                self.column += 1;
+                (1..width(c)).for_each(|k| self.put(self.row, self.column + k, BEHIND));
+                self.column += width(c);
             }
         }
     }
@@ -113,7 +127,8 @@ impl Screen {
     }
 
     pub fn lines(&self) -> Vec<String> {
-        let mut lines: Vec<String> = self.cells.iter().map(|row| row.iter().collect::<String>().trim_end().to_string()).collect();
+        let shown = |row: &Vec<char>| row.iter().filter(|c| **c != BEHIND).collect::<String>();
+        let mut lines: Vec<String> = self.cells.iter().map(|row| shown(row).trim_end().to_string()).collect();
         while lines.last().map_or(false, |line| line.is_empty()) {
             lines.pop();
         }
@@ -126,16 +141,17 @@ pub struct Terminal {
     pub far: File,
     pub screen: Screen,
     pub bytes: usize, // written so far
+    pub text: String, // all of them
 }
 
 impl Terminal {
     pub fn new(rows: u16, columns: u16) -> Terminal {
-        let descriptor = unsafe { posix_openpt(O_RDWR | O_NOCTTY | O_NONBLOCK) };
+        let descriptor = unsafe { posix_openpt(O_RDWR | O_NOCTTY | O_NONBLOCK | O_CLOEXEC) };
         assert!(descriptor >= 0 && unsafe { grantpt(descriptor) + unlockpt(descriptor) } == 0, "a pseudo-terminal opens");
         let near = unsafe { File::from_raw_fd(descriptor) };
         let name = unsafe { CStr::from_ptr(ptsname(descriptor)) }.to_str().expect("it has a name");
         let far = OpenOptions::new().read(true).write(true).open(name).expect("its other end opens");
-        let mut terminal = Terminal { near, far, screen: Screen::new(0, 0), bytes: 0 };
+        let mut terminal = Terminal { near, far, screen: Screen::new(0, 0), bytes: 0, text: String::new() };
         terminal.resize(rows, columns);
         terminal
     }
@@ -144,8 +160,8 @@ impl Terminal {
     pub fn resize(&mut self, rows: u16, columns: u16) {
         assert!(unsafe { ioctl(self.near.as_raw_fd(), TIOCSWINSZ, &[rows, columns, 0, 0]) } == 0, "the size is taken");
         let new = Screen::new(rows.into(), columns.into());
-        let Screen { other, cursor, wraps, strange, .. } = self.screen;
-        self.screen = if self.bytes == 0 { new } else { Screen { other, cursor, wraps, strange, ..new } };
+        let Screen { other, cursor, wraps, strange, left, .. } = self.screen;
+        self.screen = if self.bytes == 0 { new } else { Screen { other, cursor, wraps, strange, left, ..new } };
     }
 
     // Letters from the keyboard: they come back as an echo on the screen.
@@ -160,6 +176,7 @@ impl Terminal {
                 self.bytes += count;
                 let text = String::from_utf8_lossy(&bytes[..count]).into_owned();
                 self.screen.take(&text);
+                self.text += &text;
             }
             Err(_) => std::thread::sleep(Duration::from_millis(5)),
         }

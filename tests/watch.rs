@@ -11,17 +11,24 @@ mod terminal;
 use checks::Checks;
 use std::fs;
 use std::path::PathBuf;
+use std::os::unix::process::CommandExt;
 use std::process::{Child, Command, Stdio};
 use std::time::Duration;
 use terminal::{waited, Terminal};
 
 extern "C" {
     fn kill(process: i32, number: i32) -> i32;
+    fn setsid() -> i32;
+    fn ioctl(descriptor: i32, request: u64, ...) -> i32;
 }
 
 const SIGHUP: i32 = 1;
 const SIGINT: i32 = 2;
+const SIGQUIT: i32 = 3;
 const SIGTERM: i32 = 15;
+const SIGCONT: i32 = 18;
+const SIGTSTP: i32 = 20;
+const TIOCSCTTY: u64 = 0x540e;
 
 fn pause() {
     std::thread::sleep(Duration::from_millis(10));
@@ -66,14 +73,27 @@ impl Checks {
 
     // The tool watching a file in the test's folder.
     fn watching(&self, name: &str, out: Stdio) -> Child {
+        self.command(name, out).spawn().expect("the tool starts")
+    }
+
+    fn command(&self, name: &str, out: Stdio) -> Command {
         let mut command = Command::new(&self.tool);
-        command.args(["watch", name]).current_dir(&self.dir).stdin(Stdio::null()).stdout(out).stderr(Stdio::piped());
-        command.spawn().expect("the tool starts")
+        command.args(["watch", name]).env("TERM", "xterm").current_dir(&self.dir).stdin(Stdio::null()).stdout(out).stderr(Stdio::piped());
+        command
+    }
+
+    // The same on a terminal.
+    fn on(&self, t: &Terminal, name: &str) -> Child {
+        self.watching(name, t.far.try_clone().expect("another handle").into())
     }
 
     // It ends by the signal, with status 0 and without a word.
-    fn ends(&mut self, what: &str, mut child: Child, number: i32) {
+    fn ends(&mut self, what: &str, child: Child, number: i32) {
         unsafe { kill(child.id() as i32, number) };
+        self.has_ended(what, child);
+    }
+
+    fn has_ended(&mut self, what: &str, mut child: Child) {
         let running = std::cell::RefCell::new(&mut child);
         waited(pause, || !matches!(running.borrow_mut().try_wait(), Ok(None)));
         let _ = child.kill();
@@ -90,7 +110,8 @@ fn examples(c: &mut Checks, root: &PathBuf) {
     for path in paths {
         let text = fs::read_to_string(&path).expect("an example can be read");
         c.as_judged(&format!("{}", path.display()), &text, "");
-        c.run(&["assemble", "a.sheet", "-o", "a.bytes"], b"");
+        let assembled = c.run(&["assemble", "a.sheet", "-o", "a.bytes"], b"");
+        c.check("it assembles", assembled.status == 0);
         let [bytes, of_bytes] = [&["watch", "--once", "a.bytes"][..], &["judge", "a.bytes"]].map(|words| c.run(words, b""));
         c.check("the same of its bytes", bytes.status == of_bytes.status && bytes.text() == without_cuts(&of_bytes.text()));
     }
@@ -153,7 +174,7 @@ const OUT: [&str; 3] = ["out of reach: no row of steps from the 1 heard message 
 fn on_a_terminal(c: &mut Checks) {
     let mut t = Terminal::new(12, 86);
     c.file("a.sheet", SHEET);
-    let child = c.watching("a.sheet", t.far.try_clone().expect("another handle").into());
+    let child = c.on(&t, "a.sheet");
     c.check("the first screen", t.comes_to(has(&REACHED)) && !t.screen.cursor && !t.screen.wraps);
     c.file("a.sheet", &SHEET.replace("heard m p", "heard m"));
     c.check("a message fewer", t.comes_to(has(&OUT)));
@@ -179,7 +200,7 @@ fn on_a_terminal(c: &mut Checks) {
     t.resize(3, 86);
     c.check("a lower one", t.comes_to(has(&REACHED)));
     t.resize(2, 86);
-    c.check("a line too few", t.comes_to(has(&["... 2 lines more: sheet judge shows all"])));
+    c.check("a line too few", t.comes_to(has(&["... more: sheet judge shows all"])));
     t.resize(1, 5);
     c.check("almost none", t.comes_to(|screen| screen.lines() == ["shee"]));
     c.ends("an interrupt", child, SIGINT);
@@ -192,18 +213,94 @@ fn no_regular_file(c: &mut Checks) {
     c.check("a pipe is made", made && fs::create_dir(c.dir.join("folder")).is_ok());
     for name in ["pipe", "folder"] {
         let mut t = Terminal::new(12, 86);
-        let child = c.watching(name, t.far.try_clone().expect("another handle").into());
+        let child = c.on(&t, name);
         let told = format!("{name}: can't be watched, expected a regular file");
         c.check(&told, t.comes_to(|screen| screen.lines().get(1) == Some(&told)));
         c.ends(name, child, SIGINT);
     }
 }
 
+// Lines that are too long, letters that take two places, and characters that would do something to a terminal.
+fn odd_lines(c: &mut Checks) {
+    let mut t = Terminal::new(12, 41);
+    let names: String = (10..60).map(|i| format!(" n{i}")).collect();
+    c.file("a.sheet", &format!("n10 atom\nheard{names}\ngoal n10\n"));
+    let child = c.on(&t, "a.sheet");
+    let message = ["a.sheet:2:11: entry \"n11\" isn't declared", "    above, expected the number or name", "    of an entry declared above"];
+    let fault = [&message[..], &["2 | heard n10 n11 n12 n13 n14 n15 n16 n1", "  |           ^"]].concat();
+    c.check("a long line's fault near its beginning", t.comes_to(has(&fault)));
+    let atoms: String = (10..50).map(|i| format!("n{i} atom\n")).collect();
+    c.file("a.sheet", &format!("{atoms}heard{names}\ngoal n10\n"));
+    let under = |screen: &terminal::Screen| match &screen.lines()[..] {
+        [.., line, mark] => mark.find('^').map_or(false, |at| line.starts_with("41 | ... ") && line[at..].starts_with("n50 ")),
+        _ => false,
+    };
+    c.check("and far in it", t.comes_to(under));
+    c.file("a.sheet", &format!("k atom\ngoal {}\n", "x".repeat(3_000_000)));
+    c.check("three million letters", t.comes_to(|screen| screen.lines().get(1).map_or(false, |line| line == "a.sheet:2:6: entry")));
+    let wide = "\u{9375}".repeat(30);
+    c.file("a.sheet", &format!("{wide} atom\ngoal {wide}\n"));
+    let wanted = format!("out of reach: no row of steps from nothing heard gains {wide}, through terms of any size missing: {wide}").replace(' ', "");
+    c.check("wide letters", t.comes_to(|screen| screen.lines()[1..].concat().replace(' ', "") == wanted));
+    c.file("a.sheet", "k atom\ngoal \u{202e}\u{200b}\u{9b}31mk\n");
+    c.check("hidden characters", t.comes_to(|screen| screen.lines().last().map_or(false, |line| line.trim() == "|      ^")));
+    c.check("none of them is sent", !t.text.contains(['\u{202e}', '\u{200b}', '\u{9b}']));
+    c.ends("an interrupt", child, SIGINT);
+}
+
+// Suspended, it leaves the terminal as it was, and comes back.
+fn suspended(c: &mut Checks) {
+    let mut t = Terminal::new(12, 86);
+    c.file("a.sheet", SHEET);
+    let child = c.on(&t, "a.sheet");
+    c.check("a screen", t.comes_to(has(&REACHED)));
+    unsafe { kill(child.id() as i32, SIGTSTP) };
+    c.check("the other screen is left", t.comes_to(|screen| screen.left == 1));
+    unsafe { kill(child.id() as i32, SIGCONT) };
+    c.check("and entered again", t.comes_to(|screen| has(&REACHED)(screen) && !screen.cursor && !screen.wraps));
+    c.ends("an interrupt after it", child, SIGINT);
+    c.check("the terminal as it was", t.comes_to(|screen| !screen.other && screen.cursor && screen.wraps && screen.left == 2));
+}
+
+// The terminal goes while it is the tool's own: no fault.
+fn hung_up(c: &mut Checks) {
+    let mut t = Terminal::new(12, 86);
+    c.file("a.sheet", SHEET);
+    let mut command = c.command("a.sheet", t.far.try_clone().expect("another handle").into());
+    let own = || if unsafe { setsid() >= 0 && ioctl(1, TIOCSCTTY, 0) == 0 } { Ok(()) } else { Err(std::io::Error::last_os_error()) };
+    let child = unsafe { command.pre_exec(own) }.spawn().expect("the tool starts");
+    drop(command);
+    c.check("a screen", t.comes_to(has(&REACHED)));
+    drop(t);
+    c.has_ended("a terminal that went", child);
+}
+
+// A terminal that can't draw, and a hang-up that is ignored from the start.
+fn other_surroundings(c: &mut Checks) {
+    let mut t = Terminal::new(12, 86);
+    c.file("a.sheet", SHEET);
+    let child = c.command("a.sheet", t.far.try_clone().expect("another handle").into()).env("TERM", "dumb").spawn().expect("the tool starts");
+    c.check("a dumb terminal", t.comes_to(|screen| screen.lines() == REACHED));
+    c.ends("an interrupt on it", child, SIGINT);
+    c.check("no escape", !t.text.contains('\x1b'));
+    let out = fs::File::create(c.dir.join("shown")).expect("the test's folder can be written");
+    let mut shell = Command::new("sh");
+    shell.args(["-c", "trap '' HUP; exec \"$0\" watch a.sheet"]).arg(&c.tool).current_dir(&c.dir).stdin(Stdio::null()).stdout(out).stderr(Stdio::piped());
+    let child = shell.spawn().expect("the shell starts");
+    let shown = || fs::read_to_string(c.dir.join("shown")).unwrap_or_default();
+    let begun = waited(pause, || !shown().is_empty());
+    unsafe { kill(child.id() as i32, SIGHUP) };
+    c.file("a.sheet", &SHEET.replace("heard m p", "heard m"));
+    let went_on = waited(pause, || shown().ends_with("missing: k\n"));
+    c.check("a hang-up that is ignored", begun && went_on);
+    c.ends("an interrupt after it", child, SIGINT);
+}
+
 fn ended_otherwise(c: &mut Checks) {
-    for number in [SIGTERM, SIGHUP] {
+    for number in [SIGTERM, SIGHUP, SIGQUIT] {
         let mut t = Terminal::new(12, 86);
         c.file("a.sheet", SHEET);
-        let child = c.watching("a.sheet", t.far.try_clone().expect("another handle").into());
+        let child = c.on(&t, "a.sheet");
         c.check("a screen", t.comes_to(has(&REACHED)));
         c.ends("told to end", child, number);
         c.check("the terminal as it was", t.comes_to(|screen| !screen.other && screen.cursor && screen.wraps));
@@ -246,6 +343,10 @@ fn main() {
     usage(&mut c);
     on_a_terminal(&mut c);
     no_regular_file(&mut c);
+    odd_lines(&mut c);
+    suspended(&mut c);
+    hung_up(&mut c);
+    other_surroundings(&mut c);
     ended_otherwise(&mut c);
     in_a_file(&mut c);
     let _ = fs::remove_dir_all(&c.dir);

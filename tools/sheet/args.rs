@@ -44,10 +44,10 @@ usage: sheet judge [SHEET] [--cut C] [--without RULES] [-o FILE]    verdict, and
        sheet COMMAND --help
        sheet --version
 
-A file name that is missing or - is standard input; without -o, standard output is written. -o replaces a file only when all of
-the new one is written, and never the file that is read.
-Status: 0 done, 1 bad input or an output that can't be written, 2 wrong usage. Unless done, nothing is written.
-judge ends with 0 for out of reach and 3 for reached.
+A file name that is missing or - is standard input, but not for watch; without -o, standard output is written. -o replaces a file only
+when all of the new one is written, and never the file that is read.
+Status: 0 done, 1 bad input or an output that can't be written, 2 wrong usage. Unless done, nothing is written, but watch shows what is
+wrong. judge and watch --once end with 0 for out of reach and 3 for reached.
 ";
 
 const WATCH: &str = "\

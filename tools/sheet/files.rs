@@ -2,6 +2,7 @@
 
 use super::args::File;
 use super::output;
+use super::words::shows;
 use std::io::Read;
 
 const MOST: u64 = 64 << 20;
@@ -10,7 +11,7 @@ const MOST: u64 = 64 << 20;
 pub fn name(file: &File) -> String {
     match file {
         File::Standard => "<stdin>".to_string(),
-        File::Named(name) => name.to_string_lossy().chars().map(|c| if c.is_control() { '?' } else { c }).collect(),
+        File::Named(name) => name.to_string_lossy().chars().map(|c| if shows(c) { c } else { '?' }).collect(),
     }
 }
 

@@ -3,6 +3,8 @@
 
 use std::fs::{File, OpenOptions};
 use std::io::{Error, ErrorKind, Result, Write};
+use std::mem::ManuallyDrop;
+use std::os::fd::FromRawFd;
 use std::os::unix::fs::MetadataExt;
 use std::path::{Path, PathBuf};
 use std::sync::atomic::{AtomicBool, Ordering};
@@ -50,8 +52,8 @@ pub fn print(bytes: &[u8]) -> Result<()> {
         return Err(Error::new(ErrorKind::BrokenPipe, "it is closed"));
     }
     outlive_the_size_limit();
-    let mut out = std::io::stdout().lock();
-    out.write_all(bytes).and_then(|()| out.flush())
+    // Standard output itself, which stays open: the library's own would make two writes of lines and a rest.
+    ManuallyDrop::new(unsafe { File::from_raw_fd(1) }).write_all(bytes)
 }
 
 // The path behind symbolic links, if a new file can take its place: a regular file, or nothing yet. A link of the system's own,
