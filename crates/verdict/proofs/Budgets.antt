@@ -1,6 +1,6 @@
 -- Two calls on one sheet, at one cut and by the same rules, with any two limits, budgets and buffers (document 02, E7).
 -- Shown, from the demands alone: `settled-same`, two answers that are neither refused nor stopped are the same number, with the same rungs, gained set, used
--- set and remainder; `demands-agree`, so each agrees with every other. By the law of two budgets, `course-settled`. `rungs-within`: at most as many rungs as
+-- set and remainder; `demands-agree`, so each agrees with every other. By the law of two budgets, `course-settled`. `steps-within`: at most as many rungs as
 -- the limit; `settled-enough`: a call with a budget of at least the number of entries is refused or settled; `settled-full`: so every settled answer is that of
 -- the full call with budget 256. Assumes nothing.
 use mathlib.Core.Path.{_≡_, refl, sym, ap, _∙_}
@@ -44,9 +44,9 @@ demands-agree {limit = l} {s} {cut} {budget = b} {old = o} d limit budget old ou
     settled-same (ok-sheet l s cut b (length o) j) (ok-cut l s cut b (length o) j) (d .judged j) (d′ .judged j′) a a′ .0
 
 -- "a quick entry point of at most 64 rungs": a call that isn't refused makes at most as many rungs as its limit allows
-pub rungs-within : {on : Setting} {limit : ℕ} {s : List ℕ} {cut budget : ℕ} {old out : List ℕ} {answer : ℕ} (d : Demanded on limit s cut budget old out answer)
+pub steps-within : {on : Setting} {limit : ℕ} {s : List ℕ} {cut budget : ℕ} {old out : List ℕ} {answer : ℕ} (d : Demanded on limit s cut budget old out answer)
     (judged : refusalOf limit s cut budget (length old) ≡ 0) → d .judged judged .count ≤ limit
-rungs-within {limit = limit} {s} {cut} {budget} {old} {out = out} d judged =
+steps-within {limit = limit} {s} {cut} {budget} {old} {out = out} d judged =
     let m = d .judged judged in omega (arith, steps-count out (m .count), course-budget (m .course), ok-budget limit s cut budget (length old) judged)
 
 -- with a budget of at least the number of entries, a call that isn't refused isn't stopped
