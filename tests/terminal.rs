@@ -182,6 +182,11 @@ impl Terminal {
         }
     }
 
+    // Do these letters come, wherever they go?
+    pub fn gets(&mut self, letters: &str) -> bool {
+        waited_on(self, Terminal::read, |terminal| terminal.text.contains(letters))
+    }
+
     // Does the screen come to be as wanted, and did no place flicker on the way?
     pub fn comes_to(&mut self, wanted: impl Fn(&Screen) -> bool) -> bool {
         let old = self.screen.cells.clone();

@@ -46,8 +46,10 @@ fn chain(steps: usize, more: &str) -> String {
 }
 
 impl Checks {
+    // The file with this content, in place of the one that was there.
     fn file(&self, name: &str, content: &str) {
-        fs::write(self.dir.join(name), content).expect("the test's folder can be written");
+        let (new, old) = (self.dir.join(format!("{name}.new")), self.dir.join(name));
+        fs::write(&new, content).and_then(|()| fs::rename(new, old)).expect("the test's folder can be written");
     }
 
     // One look at this text shows this, with this status.
@@ -176,20 +178,19 @@ fn on_a_terminal(c: &mut Checks) {
     c.file("a.sheet", SHEET);
     let child = c.on(&t, "a.sheet");
     c.check("the first screen", t.comes_to(has(&REACHED)) && !t.screen.cursor && !t.screen.wraps);
-    c.file("a.sheet", &SHEET.replace("heard m p", "heard m"));
-    c.check("a message fewer", t.comes_to(has(&OUT)));
+    fs::write(c.dir.join("a.sheet"), SHEET.replace("heard m p", "heard m")).expect("the file can be written");
+    c.check("a message fewer, written in place", t.comes_to(has(&OUT)));
     c.file("a.sheet", &SHEET.replace("heard m p", "heard m q"));
     let fault = "a.sheet:4:9: entry \"q\" isn't declared above, expected the number or name of an entry";
     c.check("a fault", t.comes_to(has(&[fault, "    declared above", "4 | heard m q", "  |         ^"])));
-    c.file("new", SHEET);
-    fs::rename(c.dir.join("new"), c.dir.join("a.sheet")).expect("the file is replaced");
-    c.check("a file that another took the place of", t.comes_to(has(&REACHED)));
+    c.file("a.sheet", SHEET);
+    c.check("the first text again", t.comes_to(has(&REACHED)));
     let same = t.bytes;
     c.file("a.sheet", SHEET);
     c.check("the same text again", t.stays(Duration::from_millis(400)));
     c.check("a screen that stays, for more than a second", t.stays(Duration::from_millis(1300)) && t.bytes > same);
     t.types("xyz");
-    c.check("letters typed over it come", t.comes_to(|screen| screen.lines().iter().any(|line| line.starts_with("xyz"))));
+    c.check("letters typed over it come", t.gets("xyz"));
     c.check("and go", t.comes_to(has(&REACHED)));
     fs::remove_file(c.dir.join("a.sheet")).expect("the file is removed");
     c.check("no file", t.comes_to(|screen| screen.lines().len() == 2 && screen.lines()[1].starts_with("a.sheet: can't be read: ")));

@@ -25,7 +25,6 @@ const REDRAWN_AFTER: u64 = 25;
 type Content = Result<Vec<u8>, String>;
 
 // What a look at the file gives: the text of the screen, and the status with which a single look ends.
-#[derive(Clone, PartialEq)]
 pub struct Shown {
     pub text: String,
     pub status: u8,

@@ -23,9 +23,10 @@ mod front;
 
 pub use front::FRONT;
 
-// The largest budget of the full call, and of the quick one (document 02, E7).
+// The largest budget of the full call.
 pub const FULL_LIMIT: u32 = 256;
 
+// That of the quick call (document 02, E7).
 pub const QUICK_LIMIT: u32 = 64;
 
 // The answer: refused, or the verdict with the number of steps made (document 01: reached, out of reach, stopped).
