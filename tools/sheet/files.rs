@@ -2,10 +2,14 @@
 
 use super::args::File;
 use super::output;
-use super::words::shows;
 use std::io::Read;
 
 const MOST: u64 = 64 << 20;
+
+// Can this character be shown as it is? Others may take no place, turn a line round, or do something to a terminal.
+pub fn shows(c: char) -> bool {
+    matches!(c, '\'' | '"' | '\\') || c.escape_debug().len() == 1
+}
 
 // A file's name on one line.
 pub fn name(file: &File) -> String {

@@ -8,7 +8,7 @@ use super::notes::counted;
 use super::rules::Rules;
 use super::screen::{ended, fitting, width, Screen, NO_TERMINAL};
 use super::verdict::{quick, verdict, Verdict, QUICK_BUDGET, QUICK_STOPPED};
-use super::words::{shows, Fault, Place};
+use super::words::{Fault, Place};
 use super::{at, files, text, BAD_INPUT, DONE, REACHED};
 use std::fs::Metadata;
 use std::os::unix::fs::MetadataExt;
@@ -81,7 +81,7 @@ fn marked(bytes: &[u8], place: Place, columns: usize) -> String {
     let number = place.line.to_string();
     let (room, at) = (columns.max(24) - number.len() - 3, place.column - 1);
     let (from, lead) = if at < room / 2 { (0, "") } else { (at - room / 4, "... ") };
-    let part: String = line.chars().skip(from).take(room).map(|c| if shows(c) { c } else { ' ' }).collect();
+    let part: String = line.chars().skip(from).take(room).map(|c| if files::shows(c) { c } else { ' ' }).collect();
     let part = fitting(&part, room - lead.len());
     let before: usize = part.chars().take(at - from).map(width).sum();
     format!("{number} | {lead}{part}\n{} | {}^\n", " ".repeat(number.len()), " ".repeat(lead.len() + before))

@@ -61,11 +61,6 @@ pub fn line(text: &str, number: usize) -> Line<'_> {
     Line { words, end: Place { line: number, column: end } }
 }
 
-// Can this character be shown as it is? Others may take no place, turn a line round, or do something to a terminal.
-pub fn shows(c: char) -> bool {
-    matches!(c, '\'' | '"' | '\\') || c.escape_debug().len() == 1
-}
-
 // A word as a message shows it: quoted, on one line, and not too long.
 pub fn quoted(word: &str) -> String {
     let mut shown: String = word.chars().take(40).flat_map(char::escape_debug).collect();
