@@ -20,6 +20,7 @@ extern "C" {
     fn kill(process: i32, number: i32) -> i32;
     fn setsid() -> i32;
     fn ioctl(descriptor: i32, request: u64, ...) -> i32;
+    fn signal(number: i32, handler: usize) -> usize;
 }
 
 const SIGHUP: i32 = 1;
@@ -28,7 +29,17 @@ const SIGQUIT: i32 = 3;
 const SIGTERM: i32 = 15;
 const SIGCONT: i32 = 18;
 const SIGTSTP: i32 = 20;
+const SIG_DFL: usize = 0;
 const TIOCSCTTY: u64 = 0x540e;
+
+// No signal is ignored, also where this test runs in the background, with interrupts ignored.
+fn with_signals(command: &mut Command) {
+    let all = || {
+        [SIGHUP, SIGINT, SIGQUIT, SIGTERM, SIGTSTP].into_iter().for_each(|number| drop(unsafe { signal(number, SIG_DFL) }));
+        Ok(())
+    };
+    unsafe { command.pre_exec(all) };
+}
 
 fn pause() {
     std::thread::sleep(Duration::from_millis(10));
@@ -81,6 +92,7 @@ impl Checks {
     fn command(&self, name: &str, out: Stdio) -> Command {
         let mut command = Command::new(&self.tool);
         command.args(["watch", name]).env("TERM", "xterm").current_dir(&self.dir).stdin(Stdio::null()).stdout(out).stderr(Stdio::piped());
+        with_signals(&mut command);
         command
     }
 
@@ -287,6 +299,7 @@ fn other_surroundings(c: &mut Checks) {
     let out = fs::File::create(c.dir.join("shown")).expect("the test's folder can be written");
     let mut shell = Command::new("sh");
     shell.args(["-c", "trap '' HUP; exec \"$0\" watch a.sheet"]).arg(&c.tool).current_dir(&c.dir).stdin(Stdio::null()).stdout(out).stderr(Stdio::piped());
+    with_signals(&mut shell);
     let child = shell.spawn().expect("the shell starts");
     let shown = || fs::read_to_string(c.dir.join("shown")).unwrap_or_default();
     let begun = waited(pause, || !shown().is_empty());
