@@ -35,7 +35,9 @@ const TIOCSCTTY: u64 = 0x540e;
 // No signal is ignored, also where this test runs in the background, with interrupts ignored.
 fn with_signals(command: &mut Command) {
     let all = || {
-        [SIGHUP, SIGINT, SIGQUIT, SIGTERM, SIGTSTP].into_iter().for_each(|number| drop(unsafe { signal(number, SIG_DFL) }));
+        for number in [SIGHUP, SIGINT, SIGQUIT, SIGTERM, SIGTSTP] {
+            unsafe { signal(number, SIG_DFL) };
+        }
         Ok(())
     };
     unsafe { command.pre_exec(all) };
