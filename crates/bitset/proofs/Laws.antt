@@ -6,3 +6,5 @@ pub mod Top
 pub mod Bytes
 pub mod Choice
 pub mod Sums
+pub mod Lowest
+pub mod Union

@@ -15,7 +15,7 @@ use borrow.Author.Tests.{eqb-true}
 use Rattle.bitset.specs.Set.{member, insert}
 
 -- the lowest bit is 0 or 1
-bit-cases : (n : ℕ) → (n % 2 ≡ 0) ⊎ (n % 2 ≡ 1)
+pub bit-cases : (n : ℕ) → (n % 2 ≡ 0) ⊎ (n % 2 ≡ 1)
 bit-cases n = go (n % 2) (mod-lt n (pow-pos 1))
   where
     go : (r : ℕ) → r < 2 → (r ≡ 0) ⊎ (r ≡ 1)
