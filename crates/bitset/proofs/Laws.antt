@@ -8,3 +8,4 @@ pub mod Choice
 pub mod Sums
 pub mod Lowest
 pub mod Union
+pub mod Bits
