@@ -175,6 +175,13 @@ pub fn union(a: [u64; 4], b: [u64; 4]) -> [u64; 4]
     [a[0] | b[0], a[1] | b[1], a[2] | b[2], a[3] | b[3]]
 }
 
+// The set s with e.
+pub fn insert(s: [u64; 4], e: u8) -> [u64; 4]
+    ensures { λ r. ⌜ value r ≡ insert (value s) e ⌝ }
+{
+    union(s, singleton(e))
+}
+
 // The entries in a that aren't in b.
 pub fn minus(a: [u64; 4], b: [u64; 4]) -> [u64; 4]
     ensures { λ r. ⌜ ((k : ℕ) → member (value r) k ≡ (member (value a) k && not (member (value b) k))) ⌝ }

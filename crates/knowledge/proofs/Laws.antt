@@ -1,4 +1,5 @@
 pub mod Store
-pub mod Rows
+pub mod Vectors
 pub mod Learn
-pub mod Cache
+pub mod Added
+pub mod Lines

@@ -2,10 +2,10 @@
 -- A relation R says what is done between two states for the members of a set. Nothing is done for the empty set, and what is done for two sets that have
 -- no member in common, one after the other, is done for both. Then a loop that takes the lowest member of a word each time does it for the whole word, and
 -- four words in turn for the set that they hold.
--- Shown: `bits-start`, `bits-step`, `bits-end` of the loop, `bits-four`; and that what is left of a word has no members of its own (`rest-inside`).
+-- Shown: `Left`, what is left of a word, and how it goes on; `bits-start`, `bits-again`, `bits-end` of the loop; `bits-four`.
 -- Assumes nothing.
 use mathlib.Core.Path.{_≡_, refl, sym, ap, ap₂, _∙_, subst}
-use mathlib.Core.Bool.{Bool, true, false, true≢false, xor}
+use mathlib.Core.Bool.{Bool, true, false, true≢false, xor, cond}
 use mathlib.Core.Logic.{by-cases}
 use mathlib.Core.List.{List, [], _∷_}
 use Prim.Native.Nat.{ℕ, zero, suc, _+_, _*_, _/_, _%_, _^_, _≤_, _<_}
@@ -25,7 +25,7 @@ use Rattle.bitset.proofs.Laws.Place.{shift-bits}
 use Rattle.bitset.proofs.Laws.Sums.{Inside}
 use Rattle.bitset.proofs.Laws.Words.{Below, four}
 use Rattle.bitset.proofs.Laws.Top.{value-one}
-use Rattle.bitset.proofs.Laws.Lowest.{lowest-own}
+use Rattle.bitset.proofs.Laws.Lowest.{lowest-own, lowest-within, rest-less}
 
 -- the sum of two sets that are both moved up, and one member moved up
 moved-sum : (a b base : ℕ) → bitXor (a * 2 ^ base) (b * 2 ^ base) ≡ bitXor a b * 2 ^ base
@@ -41,9 +41,31 @@ module _ (left t k : ℕ) where
   rest-member f = member-sum left (2 ^ t) k ∙ ap (xor (member left k)) (member-single t k ∙ ne-eqb t k f) ∙ xor-false (member left k)
 
 -- what is left of a word without its lowest member
-pub rest-inside : (m left : ℕ) → Inside left m → 0 < left → left < 2 ^ 64 → Inside (bitXor left (2 ^ trailingZeros 64 left)) m
+rest-inside : (m left : ℕ) → Inside left m → 0 < left → left < 2 ^ 64 → Inside (bitXor left (2 ^ trailingZeros 64 left)) m
 rest-inside m left h p l k q =
     by-cases (ℕ-discrete (trailingZeros 64 left) k) (λ e. h k (ap (member left) (sym e) ∙ lowest-own left p l)) (λ f. h k (sym (rest-member left (trailingZeros 64 left) k f) ∙ q))
+
+-- what a loop over the members of a word still has before it: members of the word
+pub record Left (word left : ℕ) : Type 0 where
+  pub inside : Inside left word
+  pub below : left < 2 ^ 64
+
+pub left-start : (word : ℕ) → word < 2 ^ 64 → Left word word
+left-start word h = record { inside = λ k m. m; below = h }
+
+-- after its lowest member was taken out, as `bitset::rest` hands it back
+module _ {word left r : ℕ} (h : Left word left) (some : ¬ (left ≡ 0)) (q : r ≡ cond (eqb left 0) 0 (bitXor left (2 ^ trailingZeros 64 left))) where
+  pub left-rest : r ≡ bitXor left (2 ^ trailingZeros 64 left)
+  left-rest = q ∙ ap (λ (b : Bool). cond b 0 (bitXor left (2 ^ trailingZeros 64 left))) (ne-eqb left 0 some)
+
+  pub left-less : r < left
+  left-less = omega (arith, left-rest, rest-less left (omega arith) (h .below))
+
+  pub left-again : Left word r
+  left-again = record { inside = subst (λ (x : ℕ). Inside x word) (sym left-rest) (rest-inside word left (h .inside) (omega arith) (h .below)); below = omega (arith, left-less, h .below) }
+
+pub left-within : {word left : ℕ} → Left word left → ¬ (left ≡ 0) → trailingZeros 64 left < 64
+left-within {word} {left} h some = lowest-within left (omega arith) (h .below)
 
 -- words one above the other
 moved-words : (w base : ℕ) (ws : List ℕ) → w < 2 ^ 64 → value (w ∷ ws) * 2 ^ base ≡ bitXor (w * 2 ^ base) (value ws * 2 ^ (base + 64))
@@ -74,7 +96,7 @@ module _ {A : Type 0} (R : ℕ → A → A → Type 0) (none : (a : A) → R 0 a
   pub bits-start : (m base : ℕ) (a : A) → R (bitXor m m * 2 ^ base) a a
   bits-start m base a = subst (λ (x : ℕ). R x a a) (sym (ap (λ (x : ℕ). x * 2 ^ base) (xor-self m) ∙ zero-mul (2 ^ base))) (none a)
 
-  pub bits-step : (m left base : ℕ) (a b c : A) → Inside left m → 0 < left → left < 2 ^ 64 → R (bitXor m left * 2 ^ base) a b
+  bits-step : (m left base : ℕ) (a b c : A) → Inside left m → 0 < left → left < 2 ^ 64 → R (bitXor m left * 2 ^ base) a b
       → R (2 ^ (base + trailingZeros 64 left)) b c → R (bitXor m (bitXor left (2 ^ trailingZeros 64 left)) * 2 ^ base) a c
   unfolding xor
   bits-step m left base a b c h p l r one =
@@ -93,8 +115,15 @@ module _ {A : Type 0} (R : ℕ → A → A → Type 0) (none : (a : A) → R 0 a
               moved-own (bitXor m left) base (trailingZeros 64 left) ∙ member-sum m left (trailingZeros 64 left)
               ∙ ap₂ xor (h (trailingZeros 64 left) (lowest-own left p l)) (lowest-own left p l)
 
-  pub bits-end : (m base : ℕ) (a b : A) → R (bitXor m 0 * 2 ^ base) a b → R (m * 2 ^ base) a b
-  bits-end m base a b = subst (λ (x : ℕ). R (x * 2 ^ base) a b) (xor-zero-r m)
+  -- the same as the loop has it
+  pub bits-again : {m left r t : ℕ} (base : ℕ) (a b c : A) (h : Left m left) → ¬ (left ≡ 0) → r ≡ cond (eqb left 0) 0 (bitXor left (2 ^ trailingZeros 64 left)) → t ≡ trailingZeros 64 left
+      → R (bitXor m left * 2 ^ base) a b → R (2 ^ (base + t)) b c → R (bitXor m r * 2 ^ base) a c
+  bits-again {m} {left} {r} {t} base a b c h some q p before one =
+      subst (λ (x : ℕ). R (bitXor m x * 2 ^ base) a c) (sym (left-rest h some q))
+      (bits-step m left base a b c (h .inside) (omega arith) (h .below) before (subst (λ (x : ℕ). R (2 ^ (base + x)) b c) p one))
+
+  pub bits-end : (m left base : ℕ) (a b : A) → left ≡ 0 → R (bitXor m left * 2 ^ base) a b → R (m * 2 ^ base) a b
+  bits-end m left base a b z = subst (λ (x : ℕ). R (x * 2 ^ base) a b) (ap (bitXor m) z ∙ xor-zero-r m)
 
   -- one word, and the words above it
   above : (w base : ℕ) (ws : List ℕ) (a b c : A) → w < 2 ^ 64 → R (w * 2 ^ base) a b → R (value ws * 2 ^ (base + 64)) b c → R (value (w ∷ ws) * 2 ^ base) a c

@@ -6,7 +6,7 @@ use native.Mathlib.Nat.{le-trans, lt-of-lt-of-le, le-of-eq}
 use native.Mathlib.Omega.{arith}
 use lib.ListN.{length, getD, set, length-set}
 use lib.Seq.{getD-set-same, getD-set-other}
-use Rattle.knowledge.specs.Inner.Rows.{wordsAt, SameOutside}
+use Rattle.knowledge.specs.Inner.Words.{wordsAt, SameOutside}
 
 module _ {A : Type 0} where
   pub same-refl : (a b : ℕ) (ws : List A) → SameOutside a b ws ws

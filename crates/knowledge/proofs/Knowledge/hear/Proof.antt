@@ -1,13 +1,67 @@
--- `knowledge::Knowledge::hear` meets its contract: what is learnt goes back into the state.
+-- `knowledge::Knowledge::hear` meets its contract: the entry joins the known set, and its row the basis.
+use mathlib.Core.Path.{_≡_, refl, sym, ap, _∙_}
+use mathlib.Core.Bool.{Bool, true, false, true≢false}
+use Prim.Native.Nat.{ℕ, _<_}
+use native.Mathlib.Omega.{arith}
+use mir.Syntax.{w64}
+use mir.Val.{Fits}
+use lib.Dec.{eqb}
+use lib.ListN.{length, getD}
+use borrow.Author.Tests.{eqb-true, eq-eqb, not-true, not-false}
+use Rattle.bitset.specs.Set.{member}
+use Rattle.bitset.specs.Words.{value}
+use Rattle.bitset.proofs.Laws.Words.{Below}
+use Rattle.deduction.specs.Elimination.{Knowledge}
+use Rattle.knowledge.proofs.Laws.Learn.{holds-sum, holds-row, room-same, room-more, room-place}
 use borrow.Author.Needs.{needs}
 use Rattle.knowledge.proofs.Knowledge.hear.Statement.{statement}
 use Rattle.knowledge.proofs.Knowledge.hear.Tie as tie
 
-learn-requires : tie.Need-learn-requires
-learn-requires c κs = search needs
+-- something is left of the entry
+some : (c : tie.Then1) → eqb (value (c .before .before .before .before .args .remainder)) 0 ≡ false
+some c = sym (c .before .is-empty .ensures) ∙ not-true _ (c .if1 .taken)
+
+-- so it wasn't known
+new : (c : tie.Then1) → member (value (c .before .before .before .before .args .t1 .known)) (c .before .before .before .before .args .e) ≡ false
+new c = let s = c .before .before .before .before in go (member (value (s .args .t1 .known)) (s .args .e)) (λ m. true≢false (sym (eq-eqb (value (s .args .remainder)) 0 (s .pre .1 m)) ∙ some c))
+  where
+    go : (b : Bool) → (b ≡ true → ⊥) → b ≡ false
+    go true f = absurd (f refl)
+    go false f = refl
+
+-- and there is a place for its row
+place : (c : tie.Then1) → c .before .before .before .before .args .t1 .len < 256
+place c = let s = c .before .before .before .before in let i = c .before .before .insert in
+    room-place (s .args .t1 .known) (i .result) (s .args .t1 .len) (s .args .e) (i .ensures) (s .pre .0) (new c) (search needs) (λ j. let f : Fits w64 (getD (i .result) j 0) = search needs in f .fits)
+
+insert-requires : tie.Need-insert-requires
+insert-requires c κs = search needs
+
+is-empty-requires : tie.Need-is-empty-requires
+is-empty-requires c κs = search needs
+
+mul-put : tie.Need-mul-put
+mul-put c = record { fits = omega (arith, place (c .before)) }
+
+put-requires : tie.Need-put-requires
+put-requires c κs = (search needs, omega (arith, place (c .before)))
+
+add-self : tie.Need-add-self
+add-self c = record { fits = omega (arith, place (c .before .before)) }
 
 returns : tie.Need-returns
-returns c = c .before .learn .ensures
+returns c = let s = c .before .before .before .before .before .before in let t = s .args .t1 in let i = c .before .before .before .before .insert in let x = c .before .before in (
+  λ k v h p. holds-row k (s .args .e) v (t .known) (t .rows) (t .len) h (λ m. sym p ∙ s .pre .1 (ap (λ (n : ℕ). member n (s .args .e)) (h .known) ∙ m)) (i .result) (i .ensures) _ (ap (λ (n : ℕ). eqb n 0) (sym p) ∙ some x) (c .put .ensures .1) (ap value (c .put .ensures .0) ∙ p),
+  room-more (t .known) (i .result) (t .len) (s .args .e) (i .ensures) (s .pre .0) (new x),
+)
+
+returns-2 : tie.Need-returns-2
+returns-2 c = let s = c .before .before .before .before in let t = s .args .t1 in let i = c .before .before .insert in (
+  λ k v h p. holds-sum k (s .args .e) v (t .known) (t .rows) (t .len) h (λ m. sym p ∙ s .pre .1 (ap (λ (n : ℕ). member n (s .args .e)) (h .known) ∙ m)) (i .result) (i .ensures) (sym p ∙ eqb-true (value (s .args .remainder)) 0 (sym (c .before .is-empty .ensures) ∙ not-false _ (c .if1 .left))),
+  room-same (t .known) (i .result) (t .len) (s .args .e) (i .ensures) (s .pre .0),
+)
 
 pub hear-spec : {M : Type 1} → statement M
-hear-spec = tie.close (tie.spec learn-requires returns)
+hear-spec =
+    tie.close
+    (tie.spec insert-requires is-empty-requires mul-put put-requires add-self returns returns-2)

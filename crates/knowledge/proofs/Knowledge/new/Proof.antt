@@ -1,7 +1,6 @@
 -- `knowledge::Knowledge::new` meets its contract: the empty set and no row.
-use mathlib.Core.Path.{refl}
 use borrow.Author.Needs.{needs}
-use Rattle.knowledge.proofs.Laws.Learn.{state-none}
+use Rattle.knowledge.proofs.Laws.Learn.{holds-nothing}
 use Rattle.knowledge.proofs.Knowledge.new.Statement.{statement}
 use Rattle.knowledge.proofs.Knowledge.new.Tie as tie
 
@@ -9,7 +8,7 @@ empty-requires : tie.Need-empty-requires
 empty-requires c κs = search needs
 
 returns : tie.Need-returns
-returns c = (state-none (c .empty .result) _ (c .empty .ensures), (search needs, refl))
+returns c = (holds-nothing (c .empty .result) _ (c .empty .ensures), search needs)
 
 pub new-spec : {M : Type 1} → statement M
 new-spec = tie.close (tie.spec empty-requires returns)
