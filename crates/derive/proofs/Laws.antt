@@ -3,4 +3,13 @@ pub mod Along
 pub mod Buffer
 pub mod Line
 pub mod Search
+pub mod Keys
+pub mod Users
+pub mod Members
+pub mod Gives
+pub mod Table
+pub mod Waiting
+pub mod Offers
+pub mod Next
+pub mod Kept
 pub mod Written

@@ -73,11 +73,11 @@ module _ (K k a b o : ℕ) (hk : k < 256) (ha : a < 256) (hb : b < 256) (ho : o 
   open-opener = omega arith
 
 -- an entry with a number has no kind with parts
-number-apart : (k K a n : ℕ) → k < 256 → a < 2 ^ 32 → K ≡ k * 2 ^ 32 + a + 0 * 65536 → ¬ (k ≡ n) → eqb (keyKind K) n ≡ false
+pub number-apart : (k K a n : ℕ) → k < 256 → a < 2 ^ 32 → K ≡ k * 2 ^ 32 + a + 0 * 65536 → ¬ (k ≡ n) → eqb (keyKind K) n ≡ false
 number-apart k K a n hk ha q f = ne-eqb (keyKind K) n (λ (p : keyKind K ≡ n). f (omega arith))
 
 -- nor has a half
-half-apart : (s : Side) (a K n : ℕ) → a < 2 ^ 32 → K ≡ halfKind s * 2 ^ 32 + a + 0 * 65536 → (n ≤ 3) ⊎ (7 ≤ n) → eqb (keyKind K) n ≡ false
+pub half-apart : (s : Side) (a K n : ℕ) → a < 2 ^ 32 → K ≡ halfKind s * 2 ^ 32 + a + 0 * 65536 → (n ≤ 3) ⊎ (7 ≤ n) → eqb (keyKind K) n ≡ false
 half-apart s a K n ha q l = number-apart (halfKind s) K a n (omega (arith, half-range s)) ha q (λ (p : halfKind s ≡ n). ⊎-elim (λ (h : n ≤ 3). omega (arith, half-range s)) (λ (h : 7 ≤ n). omega (arith, half-range s)) l)
 
 module _ (on : Setting) (e : ℕ → Entry) (n g i : ℕ) (li : i < 256) (few : n ≤ 256) where
@@ -250,7 +250,7 @@ module _ (on : Setting) (e : ℕ → Entry) (n : ℕ) (down : Downward e n) (few
     (halves : Halved e n)
     (keys : List ℕ) (sets : List (List ℕ)) (reps : List ℕ) (right : Tabled e n keys sets reps) where
   -- the key of a lock is a half
-  key-half : (i m k : ℕ) → i < n → e i ≡ Aenc m k → anyHalf (e (repAt e k)) ≡ true
+  pub key-half : (i m k : ℕ) → i < n → e i ≡ Aenc m k → anyHalf (e (repAt e k)) ≡ true
   unfolding anyHalf parts
   key-half i m k l p =
       let (s, a, q) = halves i m k l p in

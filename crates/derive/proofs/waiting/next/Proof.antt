@@ -1,0 +1,50 @@
+-- `derive::waiting::next` meets its contract: by the lowest head that waits.
+use mathlib.Core.Path.{_∙_}
+use native.Mathlib.Omega.{arith}
+use denote.Ref.{now}
+use Rattle.bitset.specs.Words.{value}
+use Rattle.deduction.specs.Setting.{switches}
+use Rattle.derive.proofs.Laws.Waiting.{next-none, next-found}
+use borrow.Author.Needs.{needs}
+use Rattle.derive.proofs.waiting.next.Statement.{statement}
+use Rattle.derive.proofs.waiting.next.Tie as tie
+
+gained-requires : tie.Need-gained-requires
+gained-requires c κs = search needs
+
+union-requires : tie.Need-union-requires
+union-requires c κs = search needs
+
+minus-requires : tie.Need-minus-requires
+minus-requires c κs = search needs
+
+lowest-of-requires : tie.Need-lowest-of-requires
+lowest-of-requires c κs = search needs
+
+returns : tie.Need-returns
+returns c = let h = c .before in
+    let w = h .before in
+    let u = w .before in
+    let a = u .before in
+    let s = a .before .args in
+    next-none (switches (s .rules)) (now (s .best)) (value (s .ready)) (value (s .sums)) (value (s .known)) (value (a .gained .result)) (value (u .union .result)) (value (w .minus .result)) (h .lowest-of .result)
+    (a .gained .ensures) (u .union .ensures) (w .minus .ensures) (h .lowest-of .ensures) (c .if1 .taken)
+
+cast-least-step : tie.Need-cast-least-step
+cast-least-step c = omega (arith, c .if1 .left, c .before .lowest-of .ensures .within)
+
+least-step-requires : tie.Need-least-step-requires
+least-step-requires c κs = search needs
+
+returns-2 : tie.Need-returns-2
+returns-2 c = let h = c .before .before in
+    let w = h .before in
+    let u = w .before in
+    let a = u .before in
+    let s = a .before .args in
+    c .least-step .ensures
+    ∙ next-found (switches (s .rules)) (now (s .best)) (value (s .ready)) (value (s .sums)) (value (s .known)) (value (a .gained .result)) (value (u .union .result)) (value (w .minus .result)) (h .lowest-of .result)
+    (a .gained .ensures) (u .union .ensures) (w .minus .ensures) (h .lowest-of .ensures) (c .before .if1 .left)
+
+pub next-spec : {M : Type 1} → statement M
+next-spec = tie.close (tie.spec gained-requires union-requires minus-requires lowest-of-requires returns cast-least-step least-step-requires returns-2)
