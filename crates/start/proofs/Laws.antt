@@ -1,3 +1,4 @@
 pub mod Lists
 pub mod Heads
 pub mod Hearing
+pub mod Repeats

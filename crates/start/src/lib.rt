@@ -1,20 +1,23 @@
 // What the intruder knows at the start of a call: the public atoms of the sheet, then the messages heard before the cut.
 ghost use mathlib.Core.Path.{_≡_};
 ghost use mathlib.Core.Bool.{_&&_};
-ghost use mathlib.Core.List.{_++_, map};
-ghost use Prim.Native.Nat.{_+_, _*_, _≤_};
+ghost use mathlib.Core.List.{[], _∷_, _++_, map};
+ghost use Prim.Native.Nat.{_+_, _%_, _≤_, _<_};
 ghost use lib.Dec.{eqb};
-ghost use lib.ListN.{length, getD, take, replicate};
+ghost use lib.ListN.{length, getD, take};
+ghost use Rattle.bitset.specs.Inner.{FourWords};
 ghost use Rattle.deduction.specs.Standard.{setAt, repAt};
 ghost use Rattle.deduction.specs.Run.{knowledge};
 ghost use Rattle.dag.specs.Sheet.{countOf, traceLength, traceOf};
 ghost use Rattle.dag.specs.Record.{entryAt};
-ghost use Rattle.knowledge.specs.Inner.Rows.{SameOutside, Remainders};
-ghost use Rattle.knowledge.specs.Inner.State.{stateOf, Room};
+ghost use Rattle.knowledge.specs.Inner.State.{Holds};
+ghost use Rattle.knowledge.specs.Inner.Lines.{Kept, headIn};
 ghost use Rattle.start.specs.Start.{publicHeads, startHeads};
-ghost use Rattle.start.specs.Inner.State.{publicKey, Keyed, Listing, Hearing, Started};
+ghost use Rattle.start.specs.Inner.State.{publicKey, Keyed, Listing, Started};
+ghost use Rattle.start.specs.Inner.Hearing.{KeptNew, Dropped, fourFrom, Hearable, Hears, Hearing, HeardAll};
 use dag::sheet;
 use knowledge::Knowledge;
+use knowledge::lines;
 
 // Is this the key of a public atom, one with a number from 0 to 255 (document 02: names on the hull label)?
 fn is_public(key: u64) -> bool
@@ -79,58 +82,134 @@ fn trace_heads(s: &[u8], cut: u16, reps: &[u8; 256], list: &mut [u8; 512], at: u
     end
 }
 
-// Hears the first len heads of a list, in order. A known one changes nothing, so the state isn't handed over for it.
-fn hear(
-    s: &[u8],
+// Keeps place k of the list at place end, unless its head was seen before. Hands back the place after it.
+fn keep_new(list: &mut [u8; 512], seen: &mut [u64; 4], k: usize, end: usize) -> usize
+    requires { ⌜ (length (now list) ≡ 512) × (k < 512) × (end ≤ k) × FourWords (now seen) ⌝ }
+    ensures { λ r. ⌜ KeptNew k end (now (list .entry)) (now (seen .entry)) (now (list .exit)) (now (seen .exit)) r ⌝ }
+{
+    let e = list[k];
+    if bitset::holds(seen, e) {
+        return end;
+    }
+    bitset::put(seen, e);
+    list[end] = e;
+    end + 1
+}
+
+// Drops every head that stands before it among the first len of the list. Hands back how many are left: these are what there is to hear.
+fn drop_repeats(list: &mut [u8; 512], len: usize) -> usize
+    requires { ⌜ (length (now list) ≡ 512) × (len ≤ 512) ⌝ }
+    ensures { λ r. ⌜ Dropped len (now (list .entry)) (now (list .exit)) r ⌝ }
+{
+    let mut seen = bitset::empty();
+    let mut end: usize = 0;
+    let mut k: usize = 0;
+    while k < len {
+        end = keep_new(list, &mut seen, k, end);
+        k += 1;
+    }
+    end
+}
+
+// Hears one head: its line is taken off the others, and what was left of it goes into the state.
+fn hear_one(
+    state: Knowledge,
+    e: u8,
+    remainders: &mut [[u64; 4]; 256],
+    used: &mut [[u64; 4]; 256],
+    columns: &mut [[u64; 4]; 256],
+    empty: &mut [u64; 4],
+) -> Knowledge
+    requires { ⌜ Hearable (e ∷ []) state (now remainders) (now used) (now columns) (now empty) ⌝ }
+    ensures { λ r. ⌜ Hears (e ∷ []) state (now (remainders .entry)) (now (used .entry)) (now (columns .entry)) (now (empty .entry)) r (now (remainders .exit)) (now (used .exit)) (now (columns .exit)) (now (empty .exit)) ⌝ }
+{
+    let remainder = remainders[e as usize];
+    lines::sweep(remainders, used, columns, empty, e);
+    state.hear(e, remainder)
+}
+
+// Hears the four heads from place k of the list on. The state is handed in and out once for the four.
+fn hear_four(
+    state: Knowledge,
+    list: &[u8; 512],
+    k: usize,
+    remainders: &mut [[u64; 4]; 256],
+    used: &mut [[u64; 4]; 256],
+    columns: &mut [[u64; 4]; 256],
+    empty: &mut [u64; 4],
+) -> Knowledge
+    requires { ⌜ (k + 4 ≤ 512) × (length (now list) ≡ 512) × Hearable (fourFrom (now list) k) state (now remainders) (now used) (now columns) (now empty) ⌝ }
+    ensures { λ r. ⌜ Hears (fourFrom (now (list .entry)) k) state (now (remainders .entry)) (now (used .entry)) (now (columns .entry)) (now (empty .entry)) r (now (remainders .exit)) (now (used .exit)) (now (columns .exit)) (now (empty .exit)) ⌝ }
+{
+    let one = hear_one(state, list[k], remainders, used, columns, empty);
+    let two = hear_one(one, list[k + 1], remainders, used, columns, empty);
+    let three = hear_one(two, list[k + 2], remainders, used, columns, empty);
+    hear_one(three, list[k + 3], remainders, used, columns, empty)
+}
+
+// Hears the first len heads of a list, in order, from nothing, where len is a multiple of four.
+fn hear_fours(
     list: &[u8; 512],
     len: usize,
-    sets: &[[u64; 4]; 256],
     remainders: &mut [[u64; 4]; 256],
+    used: &mut [[u64; 4]; 256],
+    columns: &mut [[u64; 4]; 256],
+    empty: &mut [u64; 4],
 ) -> Knowledge
-    requires { ⌜ Hearing (now s) (now list) len (now sets) (now remainders) ⌝ }
-    ensures state { λ r. ⌜ stateOf (r .known) (r .rows) (r .len) ≡ knowledge (entryAt (now (s .entry))) (take len (now (list .entry))) ⌝ }
-    ensures room { λ r. ⌜ Room (r .known) (r .len) ⌝ }
-    ensures sizes { λ r. ⌜ (length (r .rows) ≡ 2048) × (length (now (remainders .exit)) ≡ 256) ⌝ }
-    ensures cache { λ r. ⌜ Remainders (setAt (entryAt (now (s .entry)))) (countOf (now (s .entry))) (r .rows) (r .len) (now (remainders .exit)) ⌝ }
-    ensures kept { λ r. ⌜ SameOutside 0 (8 * r .len) (replicate 2048 0) (r .rows) ⌝ }
-    ensures others { λ _. ⌜ SameOutside 0 (countOf (now (s .entry))) (now (remainders .entry)) (now (remainders .exit)) ⌝ }
+    requires { ⌜ Hearing (now list) len (now remainders) (now used) (now columns) (now empty) × (len % 4 ≡ 0) ⌝ }
+    ensures { λ r. ⌜ HeardAll (now (list .entry)) len (now (remainders .entry)) (now (used .entry)) (now (columns .entry)) (now (empty .entry)) r (now (remainders .exit)) (now (used .exit)) (now (columns .exit)) (now (empty .exit)) ⌝ }
 {
-    let n = sheet::count(s) as usize;
     let mut state = Knowledge::new();
     let mut k: usize = 0;
     while k < len {
-        let e = list[k];
-        let known = state.known;
-        if !bitset::member(known, e) {
-            let before = state.len;
-            state = state.hear(e, sets[e as usize]);
-            let after = state.len;
-            knowledge::sweep_added(remainders, n, &state.rows, before, after);
-        }
+        state = hear_four(state, list, k, remainders, used, columns, empty);
+        k += 4;
+    }
+    state
+}
+
+// Hears the first len heads of a list, in order, from nothing.
+fn hear(
+    list: &[u8; 512],
+    len: usize,
+    remainders: &mut [[u64; 4]; 256],
+    used: &mut [[u64; 4]; 256],
+    columns: &mut [[u64; 4]; 256],
+    empty: &mut [u64; 4],
+) -> Knowledge
+    requires { ⌜ Hearing (now list) len (now remainders) (now used) (now columns) (now empty) ⌝ }
+    ensures { λ r. ⌜ HeardAll (now (list .entry)) len (now (remainders .entry)) (now (used .entry)) (now (columns .entry)) (now (empty .entry)) r (now (remainders .exit)) (now (used .exit)) (now (columns .exit)) (now (empty .exit)) ⌝ }
+{
+    let fours = len - len % 4;
+    let mut state = hear_fours(list, fours, remainders, used, columns, empty);
+    let mut k = fours;
+    while k < len {
+        state = hear_one(state, list[k], remainders, used, columns, empty);
         k += 1;
     }
     state
 }
 
-// What is known at the start: the public atoms first, then the messages heard before the cut. Each entry's remainder is kept in the table.
+// What is known at the start: the public atoms first, then the messages heard before the cut. Each line is kept in the tables.
 pub fn state(
     s: &[u8],
     cut: u16,
     keys: &[u64; 256],
-    sets: &[[u64; 4]; 256],
     reps: &[u8; 256],
     remainders: &mut [[u64; 4]; 256],
+    used: &mut [[u64; 4]; 256],
+    columns: &mut [[u64; 4]; 256],
+    empty: &mut [u64; 4],
 ) -> Knowledge
-    requires { ⌜ Started (now s) cut (now keys) (now sets) (now reps) (now remainders) ⌝ }
-    ensures state { λ r. ⌜ stateOf (r .known) (r .rows) (r .len) ≡ knowledge (entryAt (now (s .entry))) (startHeads (now (s .entry)) cut) ⌝ }
-    ensures room { λ r. ⌜ Room (r .known) (r .len) ⌝ }
-    ensures sizes { λ r. ⌜ (length (r .rows) ≡ 2048) × (length (now (remainders .exit)) ≡ 256) ⌝ }
-    ensures cache { λ r. ⌜ Remainders (setAt (entryAt (now (s .entry)))) (countOf (now (s .entry))) (r .rows) (r .len) (now (remainders .exit)) ⌝ }
-    ensures kept { λ r. ⌜ SameOutside 0 (8 * r .len) (replicate 2048 0) (r .rows) ⌝ }
-    ensures others { λ _. ⌜ SameOutside 0 (countOf (now (s .entry))) (now (remainders .entry)) (now (remainders .exit)) ⌝ }
+    requires { ⌜ Started (now s) cut (now keys) (now reps) (now remainders) (now used) (now columns) (now empty) ⌝ }
+    ensures state { λ r. ⌜ Holds (knowledge (entryAt (now (s .entry))) (startHeads (now (s .entry)) cut)) (r .known) (r .rows) (r .len) ⌝ }
+    ensures lines { λ _. ⌜ Kept (headIn (now (reps .entry)) (countOf (now (s .entry)))) (setAt (entryAt (now (s .entry)))) (knowledge (entryAt (now (s .entry))) (startHeads (now (s .entry)) cut) .rows) (now (remainders .exit)) (now (used .exit)) (now (columns .exit)) (now (empty .exit)) ⌝ }
 {
+    let n = sheet::count(s) as usize;
+    lines::begin(remainders, reps, n, columns, empty);
     let mut list = [0u8; 512];
     let own = public_heads(s, keys, reps, &mut list, 0);
     let len = trace_heads(s, cut, reps, &mut list, own);
-    hear(s, &list, len, sets, remainders)
+    let new = drop_repeats(&mut list, len);
+    hear(&list, new, remainders, used, columns, empty)
 }

@@ -10,19 +10,20 @@ use native.Mathlib.Decide.{decLt}
 use native.Mathlib.Nat.{le-refl, le-trans}
 use native.Mathlib.Omega.{arith}
 use native.Mathlib.Numerals.{add-one}
-use borrow.Author.Tests.{lt-ltb, le-ltb, le-leb}
+use borrow.Author.Tests.{eq-eqb, lt-ltb, le-ltb, le-leb}
 use lib.Dec.{eqb}
 use lib.ListN.{length, getD, set, take, length-set}
 use lib.Seq.{take-suc-set, getD-take, length-take-le}
 use Rattle.deduction.specs.Entry.{Entry, Zero, Atom, Pair, Enc, Sum, Half, Aenc}
 use Rattle.deduction.specs.Standard.{repAt}
-use Rattle.deduction.proofs.Standard.{rep-le}
+use Rattle.deduction.proofs.Standard.{rep-le, rep-rep}
 use Rattle.dag.specs.Sheet.{countOf, traceLength, traceAt, traceOf, listed}
 use Rattle.dag.specs.Record.{entryAt}
 use Rattle.dag.specs.Refusal.{refusal}
 use Rattle.dag.proofs.Laws.Good.{good}
 use Rattle.canonical.specs.Inner.Key.{keyOf, openerOf, openKeyAt}
 use Rattle.deduction.proofs.Standard.First.{half-range}
+use Rattle.knowledge.specs.Inner.Lines.{headIn}
 use Rattle.start.specs.Start.{isPublic, publicHeads, startEntries, startHeads}
 use Rattle.start.specs.Inner.State.{publicKey, Keyed}
 use Rattle.start.proofs.Public.{public-only, public-own}
@@ -135,3 +136,14 @@ module _ (s : List ℕ) (ok : refusal s ≡ 0) (cut : ℕ) (within : cut ≤ tra
       let m = subst (List·Memᴰ (getD (take len list) k 0)) p (getD-member (take len list) k 0 (subst (λ (n : ℕ). k < n) (sym (length-take-le len list room)) h)) in
       let (i, c, q) = Memᴰ·of-map (repAt (entryAt s)) (startEntries s cut) m in
       omega (arith, getD-take len list k 0 h, q, rep-le (entryAt s) i, start-below i c)
+
+  -- it is a head, as the table of representatives has it
+  pub heads-live : (reps : List ℕ) → ((i : ℕ) → i < countOf s → getD reps i 0 ≡ repAt (entryAt s) i) → (len : ℕ) (list : List ℕ) → len ≤ length list → take len list ≡ startHeads s cut
+      → (k : ℕ) → k < len → headIn reps (countOf s) (getD list k 0) ≡ true
+  heads-live reps right len list room p k h =
+      let m = subst (List·Memᴰ (getD (take len list) k 0)) p (getD-member (take len list) k 0 (subst (λ (n : ℕ). k < n) (sym (length-take-le len list room)) h)) in
+      let (i, c, q) = Memᴰ·of-map (repAt (entryAt s)) (startEntries s cut) m in
+      let below = heads-below len list room p k h in
+      let at : repAt (entryAt s) i ≡ getD list k 0 = q ∙ getD-take len list k 0 h in
+      ap₂ _&&_ (lt-ltb (getD list k 0) (countOf s) below)
+      (eq-eqb (getD reps (getD list k 0) 0) (getD list k 0) (right (getD list k 0) below ∙ ap (repAt (entryAt s)) (sym at) ∙ rep-rep (entryAt s) i ∙ at))

@@ -1,115 +1,110 @@
--- Heads learnt one by one. Defined: `Held`, what holds after some of them. Assumes nothing.
-use mathlib.Core.Path.{_≡_, sym, ap, ap₂, _∙_, subst}
-use mathlib.Core.Bool.{true}
-use mathlib.Core.List.{List, [], _∷_, _++_}
-use Prim.Native.Nat.{ℕ, _+_, _*_, _≤_, _<_}
-use native.Mathlib.Nat.{le-refl, lt-of-lt-of-le}
+-- Heads learnt one by one.
+-- Shown: what holds before the first; of a known head nothing is left; one head more; four more; a list's first heads by ones and by fours. Assumes nothing.
+use mathlib.Core.Path.{_≡_, refl, sym, ap, _∙_, subst}
+use mathlib.Core.Bool.{Bool, true}
+use mathlib.Core.Logic.{_⊎_, inl, inr}
+use mathlib.Core.List.{List, [], _∷_, _++_, List·Memᴰ, List·Memᴰ·head, List·Memᴰ·tail, List·Memᴰ·not-nil, List·Memᴰ·cases-cons, List·Memᴰ·append-cases}
+use Prim.Native.Nat.{ℕ, suc, _+_, _≤_, _<_}
 use native.Mathlib.Omega.{arith}
 use native.Mathlib.Numerals.{add-one}
-use lib.ListN.{length, getD, take, replicate, length-replicate}
+use lib.ListN.{length, getD, take}
 use lib.Seq.{take-suc}
 use Rattle.bitset.specs.Set.{member}
 use Rattle.bitset.specs.Words.{value}
-use Rattle.deduction.specs.Standard.{setAt}
-use Rattle.deduction.specs.Elimination.{Knowledge, learnAs, learnAll, nothing}
-use Rattle.deduction.specs.Run.{knowledge}
-use Rattle.deduction.proofs.Elimination.{learnAll-more}
-use Rattle.dag.specs.Sheet.{countOf}
-use Rattle.dag.specs.Record.{entryAt}
-use Rattle.dag.proofs.Laws.Good.{good}
-use Rattle.knowledge.specs.Inner.Rows.{SameOutside, Remainders}
-use Rattle.knowledge.specs.Inner.State.{stateOf, Room}
+use Rattle.deduction.specs.Elimination.{Knowledge, Row, Reduced, reduce, addRow, learnAs, learnAll, nothing}
+use Rattle.deduction.proofs.Elimination.{learnAll-more, learnt-all}
+use Rattle.knowledge.specs.Inner.State.{Room, Holds}
+use Rattle.knowledge.specs.Inner.Lines.{setIn, Kept}
 use Rattle.knowledge.specs.declared.Knowledge as program
-use Rattle.knowledge.proofs.Laws.Learn.{learn-again, learn-step}
-use Rattle.knowledge.proofs.Laws.Store.{same-refl, same-trans, same-wider}
-use Rattle.knowledge.proofs.Laws.Cache.{remainders-first, remainders-kept}
-use Rattle.start.specs.Inner.State.{Hearing}
+use Rattle.knowledge.proofs.Laws.Learn.{learn-rows}
+use Rattle.start.specs.Inner.Hearing.{Heard, fourFrom}
 
--- after the heads `es` the state is what is known of them, and the table, which began as `first`, has each entry's remainder; words of rows that aren't
--- used are zero, and other lines of the table are as they were
-pub record Held (s : List ℕ) (first : List (List ℕ)) (es : List ℕ) (x : program.Knowledge) (remainders : List (List ℕ)) : Type 0 where
-  pub state : stateOf (x .known) (x .rows) (x .len) ≡ knowledge (entryAt s) es
-  pub room : Room (x .known) (x .len)
-  pub words : length (x .rows) ≡ 2048
-  pub lines : length remainders ≡ 256
-  pub cache : Remainders (setAt (entryAt s)) (countOf s) (x .rows) (x .len) remainders
-  pub kept : SameOutside 0 (8 * x .len) (replicate 2048 0) (x .rows)
-  pub others : SameOutside 0 (countOf s) first remainders
+-- before the first head
+pub heard-none : (live : ℕ → Bool) (f : ℕ → ℕ) (x : program.Knowledge) {rs us cs : List (List ℕ)} {empty : List ℕ} → Holds nothing (x .known) (x .rows) (x .len) → Room (x .known) (x .len) → Kept live f [] rs us cs empty
+    → Heard live f [] x rs us cs empty
+unfolding nothing learnAll
+heard-none live f x holds room kept = record { below = λ e m. absurd (List·Memᴰ·not-nil m); state = holds; room = room; kept = kept }
 
--- it holds of an equal state and an equal table
-pub held-same : {s es : List ℕ} {x y : program.Knowledge} {first ts us : List (List ℕ)} → y ≡ x → us ≡ ts → Held s first es x ts → Held s first es y us
-held-same {s} {es} {x} {y} {first} {ts} {us} p q h = subst (λ (z : program.Knowledge). Held s first es z us) (sym p) (subst (Held s first es x) (sym q) h)
+module _ {live : ℕ → Bool} {f : ℕ → ℕ} {es : List ℕ} {x : program.Knowledge} {rs us cs : List (List ℕ)} {empty : List ℕ} (h : Heard live f es x rs us cs empty) (e : ℕ) (l : live e ≡ true) where
+  abbrev before : Knowledge
+  before = learnAll f nothing es
 
--- before the first head nothing is known
-pub held-none : {s list : List ℕ} {len : ℕ} {sets ts : List (List ℕ)} → Hearing s list len sets ts
-    → (x : program.Knowledge) → stateOf (x .known) (x .rows) (x .len) ≡ nothing → Room (x .known) (x .len) → x .rows ≡ replicate 2048 0 → Held s ts [] x ts
-unfolding knowledge learnAll
-held-none {s} {list} {len} {sets} {ts} r x p room zero-words = record {
-  state = p;
-  room = room;
-  words = ap length zero-words ∙ length-replicate {A = ℕ} 2048 0;
-  lines = r .lines;
-  cache = remainders-first (setAt (entryAt s)) (countOf s) (x .known) (x .rows) (x .len) ts p (r .fresh);
-  kept = subst (SameOutside 0 (8 * x .len) (replicate 2048 0)) (sym zero-words) (same-refl {A = ℕ} 0 (8 * x .len) (replicate 2048 0));
-  others = same-refl 0 (countOf s) ts;
-}
+  -- what is left of it, as its line says
+  pub heard-line : setIn rs e ≡ reduce (before .rows) (f e) .remainder
+  heard-line = ap (λ (r : Reduced). r .remainder) (h .kept .line e l)
 
--- one head more
-hear-more : (s es : List ℕ) (x : Knowledge) (h v : ℕ) → x ≡ knowledge (entryAt s) es → v ≡ setAt (entryAt s) h → learnAs x h v ≡ knowledge (entryAt s) (es ++ (h ∷ []))
-unfolding knowledge
-hear-more s es x h v before set =
-    ap₂ (λ (j : Knowledge) (w : ℕ). learnAs j h w) before set ∙ sym (learnAll-more (setAt (entryAt s)) nothing es h)
+  nothing-left : member (before .known) e ≡ true → reduce (before .rows) (f e) .remainder ≡ 0
+  nothing-left m = let t = learnt-all f 256 es (h .below) in t .settled e (t .members e .0 m)
 
--- head k of the list
-module _ {s list : List ℕ} {len : ℕ} {sets remainders : List (List ℕ)} (r : Hearing s list len sets remainders) (k : ℕ) (h : k < len) where
-  pub head-place : k < length list
-  head-place = lt-of-lt-of-le h (subst (λ (n : ℕ). len ≤ n) (sym (r .room)) (r .within))
+  -- of a known head nothing is left
+  pub heard-known : member (value (x .known)) e ≡ true → setIn rs e ≡ 0
+  heard-known m = heard-line ∙ nothing-left (ap (λ (n : ℕ). member n e) (sym (h .state .known)) ∙ m)
 
-  pub head-small : getD list k 0 < 256
-  head-small = lt-of-lt-of-le (r .below k h) (good s (r .good) .few)
+  -- the head learnt, and the tables kept
+  pub heard-more : e < 256 → (y : program.Knowledge) {rs′ us′ cs′ : List (List ℕ)} {empty′ : List ℕ} → Holds (learnAs before e (f e)) (y .known) (y .rows) (y .len) → Room (y .known) (y .len)
+      → Kept live f (addRow (before .rows) e (reduce (before .rows) (f e))) rs′ us′ cs′ empty′ → Heard live f (es ++ (e ∷ [])) y rs′ us′ cs′ empty′
+  heard-more small y {rs′} {us′} {cs′} {empty′} holds room kept = record {
+    below = λ j m. elim (List·Memᴰ·append-cases es m) [ inl o ↦ h .below j o | inr o ↦ one j (List·Memᴰ·cases-cons o) ];
+    state = subst (λ (k : Knowledge). Holds k (y .known) (y .rows) (y .len)) (sym (learnAll-more f nothing es e)) holds;
+    room = room;
+    kept = subst (λ (r : List Row). Kept live f r rs′ us′ cs′ empty′) (sym (ap (λ (k : Knowledge). k .rows) (learnAll-more f nothing es e) ∙ learn-rows before e (f e) nothing-left)) kept;
+  }
+    where
+      one : (j : ℕ) → (j ≡ e) ⊎ List·Memᴰ j [] → j < 256
+      one j (inl p) = omega arith
+      one j (inr m) = absurd (List·Memᴰ·not-nil m)
 
-  one-more : take k list ++ (getD list k 0 ∷ []) ≡ take (k + 1) list
-  one-more = sym (ap (λ (n : ℕ). take n list) (add-one k) ∙ take-suc list k 0 head-place)
+-- four more at the end of a list
+pub four-more : (es : List ℕ) (a b c d : ℕ) → (((es ++ (a ∷ [])) ++ (b ∷ [])) ++ (c ∷ [])) ++ (d ∷ []) ≡ es ++ (a ∷ b ∷ c ∷ d ∷ [])
+four-more [] a b c d = refl
+four-more (x ∷ es) a b c d = ap (λ (l : List ℕ). x ∷ l) (four-more es a b c d)
 
-  module _ {first : List (List ℕ)} (x : program.Knowledge) (ts : List (List ℕ)) (held : Held s first (take k list) x ts) where
-    abbrev before : Knowledge
-    before = stateOf (x .known) (x .rows) (x .len)
+-- the first heads of a list: one more, and four more
+pub take-one : (list : List ℕ) (k : ℕ) → k < length list → take k list ++ (getD list k 0 ∷ []) ≡ take (k + 1) list
+take-one list k h = sym (ap (λ (n : ℕ). take n list) (add-one k) ∙ take-suc list k 0 h)
 
-    learnt : learnAs before (getD list k 0) (value (getD sets (getD list k 0) [])) ≡ knowledge (entryAt s) (take (k + 1) list)
-    learnt =
-        hear-more s (take k list) before (getD list k 0) _ (held .state) (r .set (getD list k 0) (r .below k h)) ∙ ap (knowledge (entryAt s)) one-more
+pub take-four : (list : List ℕ) (k : ℕ) → k + 4 ≤ length list → take k list ++ fourFrom list k ≡ take (k + 4) list
+take-four list k h =
+    sym (four-more (take k list) (getD list k 0) (getD list (k + 1) 0) (getD list (k + 2) 0) (getD list (k + 3) 0))
+    ∙ ap (λ (l : List ℕ). ((l ++ (getD list (k + 1) 0 ∷ [])) ++ (getD list (k + 2) 0 ∷ [])) ++ (getD list (k + 3) 0 ∷ [])) (take-one list k (omega arith))
+    ∙ ap (λ (l : List ℕ). (l ++ (getD list (k + 2) 0 ∷ [])) ++ (getD list (k + 3) 0 ∷ [])) (step (k + 1) (k + 2) (omega arith) (omega arith))
+    ∙ ap (λ (l : List ℕ). l ++ (getD list (k + 3) 0 ∷ [])) (step (k + 2) (k + 3) (omega arith) (omega arith))
+    ∙ step (k + 3) (k + 4) (omega arith) (omega arith)
+  where
+    step : (i j : ℕ) → j ≡ i + 1 → i < length list → take i list ++ (getD list i 0 ∷ []) ≡ take j list
+    step i j p l = take-one list i l ∙ ap (λ (n : ℕ). take n list) (sym p)
 
-    -- a known head changes nothing
-    pub held-again : member (value (x .known)) (getD list k 0) ≡ true → Held s first (take (k + 1) list) x ts
-    held-again known = record {
-      state = learn-again before (getD list k 0) (value (getD sets (getD list k 0) [])) known ∙ learnt;
-      room = held .room;
-      words = held .words;
-      lines = held .lines;
-      cache = held .cache;
-      kept = held .kept;
-      others = held .others;
-    }
+-- the same heads
+pub heard-same : {live : ℕ → Bool} {f : ℕ → ℕ} {es es′ : List ℕ} {x : program.Knowledge} {rs us cs : List (List ℕ)} {empty : List ℕ} → es ≡ es′ → Heard live f es x rs us cs empty → Heard live f es′ x rs us cs empty
+heard-same {live} {f} {es} {es′} {x} {rs} {us} {cs} {empty} p = subst (λ (l : List ℕ). Heard live f l x rs us cs empty) p
 
-    -- the head learnt, and the table kept
-    pub held-more : (y : program.Knowledge) (us : List (List ℕ)) (n : ℕ) → n ≡ countOf s
-        → stateOf (y .known) (y .rows) (y .len) ≡ learnAs before (getD list k 0) (value (getD sets (getD list k 0) []))
-        → Room (y .known) (y .len) → SameOutside (8 * x .len) (8 * y .len) (x .rows) (y .rows)
-        → ((f : ℕ → ℕ) → Remainders f n (y .rows) (x .len) ts → Remainders f n (y .rows) (y .len) us) → SameOutside 0 n ts us → Held s first (take (k + 1) list) y us
-    held-more y us n many heard room kept swept swept-lines = record {
-      state = heard ∙ learnt;
-      room = room;
-      words = kept .size ∙ held .words;
-      lines = swept-lines .size ∙ held .lines;
-      cache =
-          subst (λ (m : ℕ). Remainders f m (y .rows) (y .len) us) many
-          (swept f (subst (λ (m : ℕ). Remainders f m (y .rows) (x .len) ts) (sym many) (remainders-kept f (countOf s) (x .len) ts (le-refl (8 * x .len)) kept (held .cache))));
-      kept = same-trans (same-wider 0 (8 * y .len) (le-refl 0) more (held .kept)) (same-wider 0 (8 * y .len) (omega arith) (le-refl (8 * y .len)) kept);
-      others = same-trans (held .others) (subst (λ (m : ℕ). SameOutside 0 m ts us) many swept-lines);
-    }
-      where
-        f : ℕ → ℕ
-        f = setAt (entryAt s)
+-- four heads of a list that are live
+pub four-live : (live : ℕ → Bool) (list : List ℕ) (k : ℕ) → ((i : ℕ) → i < k + 4 → live (getD list i 0) ≡ true) → (h : ℕ) → List·Memᴰ h (fourFrom list k) → live h ≡ true
+four-live live list k a h m = one (List·Memᴰ·cases-cons m)
+  where
+    at : (i : ℕ) → i < k + 4 → h ≡ getD list i 0 → live h ≡ true
+    at i l p = ap live p ∙ a i l
 
-        more : 8 * x .len ≤ 8 * y .len
-        more = omega (arith, learn-step (x .known) (x .rows) (x .len) _ _ (y .known) (y .rows) (y .len) heard .0)
+    four : (h ≡ getD list (k + 3) 0) ⊎ List·Memᴰ h [] → live h ≡ true
+    four (inl p) = at (k + 3) (omega arith) p
+    four (inr n) = absurd (List·Memᴰ·not-nil n)
+
+    three : (h ≡ getD list (k + 2) 0) ⊎ List·Memᴰ h (getD list (k + 3) 0 ∷ []) → live h ≡ true
+    three (inl p) = at (k + 2) (omega arith) p
+    three (inr n) = four (List·Memᴰ·cases-cons n)
+
+    two : (h ≡ getD list (k + 1) 0) ⊎ List·Memᴰ h (getD list (k + 2) 0 ∷ getD list (k + 3) 0 ∷ []) → live h ≡ true
+    two (inl p) = at (k + 1) (omega arith) p
+    two (inr n) = three (List·Memᴰ·cases-cons n)
+
+    one : (h ≡ getD list k 0) ⊎ List·Memᴰ h (getD list (k + 1) 0 ∷ getD list (k + 2) 0 ∷ getD list (k + 3) 0 ∷ []) → live h ≡ true
+    one (inl p) = at k (omega arith) p
+    one (inr n) = two (List·Memᴰ·cases-cons n)
+
+-- a live head alone
+pub alone : (live : ℕ → Bool) (a : ℕ) → live a ≡ true → (h : ℕ) → List·Memᴰ h (a ∷ []) → live h ≡ true
+alone live a l h m = go (List·Memᴰ·cases-cons m)
+  where
+    go : (h ≡ a) ⊎ List·Memᴰ h [] → live h ≡ true
+    go (inl p) = ap live p ∙ l
+    go (inr n) = absurd (List·Memᴰ·not-nil n)

@@ -1,13 +1,23 @@
--- `start::state` meets its contract: the public atoms are listed, then the messages, and all are heard in that order.
-use mathlib.Core.Path.{sym, ap, _∙_, subst}
-use Prim.Native.Nat.{ℕ, _≤_}
+-- `start::state` meets its contract: the public atoms are listed, then the messages, and each is heard once in that order.
+use mathlib.Core.Path.{_≡_, sym, ap, _∙_, subst}
+use mathlib.Core.Bool.{Bool, true}
+use mathlib.Core.List.{List, []}
+use Prim.Native.Nat.{ℕ, _≤_, _<_}
 use native.Mathlib.Omega.{arith}
 use denote.Ref.{now}
-use borrow.Author.Needs.{needs}
+use lib.ListN.{length, getD, take}
+use Rattle.deduction.specs.Elimination.{Knowledge, learnAll, nothing}
+use Rattle.deduction.specs.Standard.{setAt}
 use Rattle.deduction.specs.Run.{knowledge}
+use Rattle.dag.specs.Sheet.{countOf}
 use Rattle.dag.specs.Record.{entryAt}
 use Rattle.dag.proofs.Laws.Good.{good}
-use Rattle.start.proofs.Laws.Heads.{start-listed, heads-below}
+use Rattle.knowledge.specs.Inner.State.{Holds}
+use Rattle.knowledge.specs.Inner.Lines.{Kept, headIn, Begun}
+use Rattle.knowledge.proofs.Laws.Lines.{kept-begun}
+use Rattle.start.specs.Start.{startHeads}
+use Rattle.start.proofs.Laws.Heads.{start-listed, heads-live}
+use borrow.Author.Needs.{needs}
 use Rattle.start.proofs.state.Statement.{statement}
 use Rattle.start.proofs.state.Tie as tie
 
@@ -16,38 +26,85 @@ own-few : (c : tie.After-public-heads) → c .public-heads .result ≤ 256
 own-few c = omega (arith, c .public-heads .ensures .1 .0)
 
 len-few : (c : tie.After-trace-heads) → c .trace-heads .result ≤ 512
-len-few c = let s = c .before .before .before .before .before in
+len-few c = let s = c .before .before .before .before .before .before .before .before .before .before in
     omega (arith, c .trace-heads .ensures .1 .0, own-few (c .before .before), s .pre .within, good (now (s .args .s)) (s .pre .good) .trace)
 
+-- the list has what is gained at the start
+listed : (c : tie.After-trace-heads) → let s = c .before .before .before .before .before .before .before .before .before .before in
+    take (c .trace-heads .result) (c .trace-heads .last .1 .1 .1 .0) ≡ startHeads (now (s .args .s)) (s .args .cut)
+listed c = let s = c .before .before .before .before .before .before .before .before .before .before in
+    start-listed (now (s .args .s)) (s .args .cut) (c .before .before .public-heads .result) (c .trace-heads .result) _ _ (c .before .before .public-heads .ensures .0) (c .trace-heads .ensures .0)
+
+live : (c : tie.After-trace-heads) → let s = c .before .before .before .before .before .before .before .before .before .before in
+    (k : ℕ) → k < c .trace-heads .result → headIn (now (s .args .reps)) (countOf (now (s .args .s))) (getD (c .trace-heads .last .1 .1 .1 .0) k 0) ≡ true
+live c = let s = c .before .before .before .before .before .before .before .before .before .before in
+    heads-live (now (s .args .s)) (s .pre .good) (s .args .cut) (s .pre .within) (now (s .args .reps)) (s .pre .rep) (c .trace-heads .result) _ (omega (arith, len-few c, c .trace-heads .ensures .1 .1)) (listed c)
+
+-- and teaches what is known then
+taught : (c : tie.After-trace-heads) → let s = c .before .before .before .before .before .before .before .before .before .before in
+    learnAll (setAt (entryAt (now (s .args .s)))) nothing (take (c .trace-heads .result) (c .trace-heads .last .1 .1 .1 .0)) ≡ knowledge (entryAt (now (s .args .s))) (startHeads (now (s .args .s)) (s .args .cut))
+unfolding knowledge
+taught c = let s = c .before .before .before .before .before .before .before .before .before .before in ap (learnAll (setAt (entryAt (now (s .args .s)))) nothing) (listed c)
+
+-- the tables before the first head
+kept : (c : tie.After-begin) → let s = c .before .before .before .before .before .before in
+    Kept (headIn (now (s .args .reps)) (countOf (now (s .args .s)))) (setAt (entryAt (now (s .args .s)))) [] (now (s .args .remainders)) (now (s .args .used)) (c .begin .last .1 .1 .1 .0) (c .begin .last .1 .1 .1 .1 .0)
+kept c = let s = c .before .before .before .before .before .before in
+    kept-begun (countOf (now (s .args .s))) (setAt (entryAt (now (s .args .s)))) (subst (λ (n : ℕ). Begun n (now (s .args .remainders)) (now (s .args .reps)) (c .begin .last .1 .1 .1 .0) (c .begin .last .1 .1 .1 .1 .0)) (c .before .before .before .before .count .ensures) (c .begin .ensures))
+    (s .pre .sizes .remainders) (s .pre .sizes .used) (s .pre .fresh) (s .pre .unused)
+
+holds-same : {k k′ : Knowledge} {g ws : List ℕ} {len : ℕ} → k ≡ k′ → Holds k g ws len → Holds k′ g ws len
+holds-same {k} {k′} {g} {ws} {len} p = subst (λ (x : Knowledge). Holds x g ws len) p
+
+kept-rows : {live : ℕ → Bool} {f : ℕ → ℕ} {k k′ : Knowledge} {rs us cs : List (List ℕ)} {es : List ℕ} → k ≡ k′ → Kept live f (k .rows) rs us cs es → Kept live f (k′ .rows) rs us cs es
+kept-rows {live} {f} {k} {k′} {rs} {us} {cs} {es} p = subst (λ (x : Knowledge). Kept live f (x .rows) rs us cs es) p
+
+count-requires : tie.Need-count-requires
+count-requires c κs = search needs
+
+cast-n : tie.Need-cast-n
+cast-n c = search needs
+
+begin-requires : tie.Need-begin-requires
+begin-requires c κs = let s = c .before .before .before .before .before in (omega (arith, c .before .before .before .count .ensures, good (now (s .args .s)) (s .pre .good) .few), s .pre .size, s .pre .sizes .empty, s .pre .none, s .pre .flat)
+
 public-heads-requires : tie.Need-public-heads-requires
-public-heads-requires c κs = let s = c .before .before in
-    (record { good = s .pre .good; rep = s .pre .right .rep; room = search needs; place = search needs }, s .pre .right .key)
+public-heads-requires c κs = let s = c .before .before .before .before .before .before .before in
+    (record { good = s .pre .good; rep = s .pre .rep; room = search needs; place = search needs }, s .pre .key)
 
 trace-heads-requires : tie.Need-trace-heads-requires
-trace-heads-requires c κs = let p = c .before in
-    let s = p .before .before .before in
-    (record { good = s .pre .good; rep = s .pre .right .rep; room = p .public-heads .ensures .1 .1; place = own-few p }, s .pre .within)
+trace-heads-requires c κs = let p = c .before in let s = c .before .before .before .before .before .before .before .before .before in
+    (record { good = s .pre .good; rep = s .pre .rep; room = p .public-heads .ensures .1 .1; place = own-few p }, s .pre .within)
+
+drop-repeats-requires : tie.Need-drop-repeats-requires
+drop-repeats-requires c κs = (c .before .trace-heads .ensures .1 .1, len-few (c .before))
 
 hear-requires : tie.Need-hear-requires
-hear-requires c κs = let h = c .before .before in
-    let p = h .before .before in
-    let s = p .before .before .before in
+hear-requires c κs = let d = c .before .before .before .before .before in let t = c .before .before .before .before .before .before .before in let s = c .before .before .before .before .before .before .before .before .before .before .before .before .before .before .before .before .before in
     record {
-      good = s .pre .good;
-      room = h .trace-heads .ensures .1 .1;
-      within = len-few h;
-      below = heads-below (now (s .args .s)) (s .pre .good) (s .args .cut) (s .pre .within) (h .trace-heads .result) _ (subst (λ (n : ℕ). h .trace-heads .result ≤ n) (sym (h .trace-heads .ensures .1 .1)) (len-few h)) (start-listed (now (s .args .s)) (s .args .cut) (p .public-heads .result) (h .trace-heads .result) _ _ (p .public-heads .ensures .0) (h .trace-heads .ensures .0));
-      set = s .pre .right .set;
-      lines = s .pre .lines;
-      fresh = s .pre .fresh;
+      room = d .drop-repeats .ensures .room;
+      within = omega (arith, d .drop-repeats .ensures .few, len-few t);
+      live = headIn (now (s .args .reps)) (countOf (now (s .args .s)));
+      sets = setAt (entryAt (now (s .args .s)));
+      lives = d .drop-repeats .ensures .among (headIn (now (s .args .reps)) (countOf (now (s .args .s)))) (live t);
+      kept = kept (c .before .before .before .before .before .before .before .before .before .before .before);
     }
 
 returns : tie.Need-returns
-returns c = let h = c .before .before .before in
-    let p = h .before .before in
-    let s = p .before .before .before in
-    let e = c .hear .ensures in
-    (e .0 ∙ ap (knowledge (entryAt (now (s .args .s)))) (start-listed (now (s .args .s)) (s .args .cut) (p .public-heads .result) (h .trace-heads .result) _ _ (p .public-heads .ensures .0) (h .trace-heads .ensures .0)), e .1)
+returns c = let d = c .before .before .before .before .before .before in let t = c .before .before .before .before .before .before .before .before in let s = c .before .before .before .before .before .before .before .before .before .before .before .before .before .before .before .before .before .before in let e = entryAt (now (s .args .s)) in
+    let h = c .hear .ensures (headIn (now (s .args .reps)) (countOf (now (s .args .s)))) (setAt e) (d .drop-repeats .ensures .among (headIn (now (s .args .reps)) (countOf (now (s .args .s)))) (live t)) (kept (c .before .before .before .before .before .before .before .before .before .before .before .before)) in
+    let same = d .drop-repeats .ensures .heads (setAt e) ∙ taught t in
+    (holds-same same (h .state), kept-rows same (h .kept))
 
 pub state-spec : {M : Type 1} → statement M
-state-spec = tie.close (tie.spec public-heads-requires trace-heads-requires hear-requires returns)
+state-spec =
+    tie.close
+    (tie.spec
+    count-requires
+    cast-n
+    begin-requires
+    public-heads-requires
+    trace-heads-requires
+    drop-repeats-requires
+    hear-requires
+    returns)

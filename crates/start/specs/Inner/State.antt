@@ -1,10 +1,10 @@
 -- What making the state at the start needs.
--- Defined: `publicKey`, the key of a public atom; `Keyed`, a table of keys; `Listing`, what listing heads needs; `Hearing`, what hearing them needs;
+-- Defined: `publicKey`, the key of a public atom; `Keyed`, a table of keys; `Listing`, what listing heads needs;
 -- `Started`, what the whole needs.
 use Prim.Native.Nat.{ℕ, _+_, _^_, _≤_, _<_}
 use mathlib.Core.Path.{_≡_}
 use mathlib.Core.Bool.{Bool, _&&_}
-use mathlib.Core.List.{List, []}
+use mathlib.Core.List.{List}
 use lib.Dec.{leb, ltb}
 use lib.ListN.{length, getD}
 use Rattle.bitset.specs.Words.{value}
@@ -13,7 +13,7 @@ use Rattle.dag.specs.Sheet.{countOf, traceLength}
 use Rattle.dag.specs.Record.{entryAt}
 use Rattle.dag.specs.Refusal.{refusal}
 use Rattle.canonical.specs.Inner.Key.{openKeyAt}
-use Rattle.canonical.specs.Inner.Tables.{Tabled}
+use Rattle.knowledge.specs.Inner.Lines.{setIn, Sizes}
 
 -- a public atom's key: an atom's key is 2 ^ 32 and its number
 abbrev pub publicKey : ℕ → Bool
@@ -30,20 +30,15 @@ pub record Listing (s reps list : List ℕ) (at : ℕ) : Type 0 where
   pub room : length list ≡ 512
   pub place : at ≤ 256
 
--- the first `len` numbers of the list are entries, the table has their sets, and each remainder is its set
-pub record Hearing (s list : List ℕ) (len : ℕ) (sets remainders : List (List ℕ)) : Type 0 where
-  pub good : refusal s ≡ 0
-  pub room : length list ≡ 512
-  pub within : len ≤ 512
-  pub below : (k : ℕ) → k < len → getD list k 0 < countOf s
-  pub set : (i : ℕ) → i < countOf s → value (getD sets i []) ≡ setAt (entryAt s) i
-  pub lines : length remainders ≡ 256
-  pub fresh : (i : ℕ) → i < countOf s → value (getD remainders i []) ≡ setAt (entryAt s) i
-
--- the tables are right for a good sheet, the cut is within its log, and each remainder is its set
-pub record Started (s : List ℕ) (cut : ℕ) (keys : List ℕ) (sets : List (List ℕ)) (reps : List ℕ) (remainders : List (List ℕ)) : Type 0 where
+-- the tables of keys and representatives are right for a good sheet, the cut is within its log, each remainder is its set, and the other tables are empty
+pub record Started (s : List ℕ) (cut : ℕ) (keys reps : List ℕ) (rs us cs : List (List ℕ)) (es : List ℕ) : Type 0 where
   pub good : refusal s ≡ 0
   pub within : cut ≤ traceLength s
-  pub right : Tabled (entryAt s) (countOf s) keys sets reps
-  pub lines : length remainders ≡ 256
-  pub fresh : (i : ℕ) → i < countOf s → value (getD remainders i []) ≡ setAt (entryAt s) i
+  pub key : Keyed s keys
+  pub rep : (i : ℕ) → i < countOf s → getD reps i 0 ≡ repAt (entryAt s) i
+  pub sizes : Sizes rs us es
+  pub size : length cs ≡ 256
+  pub fresh : (i : ℕ) → i < countOf s → setIn rs i ≡ setAt (entryAt s) i
+  pub unused : (i : ℕ) → setIn us i ≡ 0
+  pub flat : (q : ℕ) → setIn cs q ≡ 0
+  pub none : value es ≡ 0
