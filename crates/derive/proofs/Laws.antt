@@ -1,8 +1,8 @@
 pub mod Machine
+pub mod Lines
 pub mod Along
 pub mod Buffer
-pub mod Line
-pub mod Search
+pub mod Step
 pub mod Keys
 pub mod Users
 pub mod Members

@@ -4,7 +4,6 @@ mod offers;
 pub mod rules;
 pub mod run;
 mod users;
-mod waiting;
 mod writer;
 
 // One step (document 01: rung). A source that isn't used is 65,535.

@@ -12,8 +12,7 @@ ghost use Rattle.bitset.specs.Inner.{FourWords};
 ghost use Rattle.deduction.specs.Setting.{switches};
 ghost use Rattle.deduction.specs.Run.{byRule};
 ghost use Rattle.canonical.specs.Inner.Key.{keyKind};
-ghost use Rattle.derive.specs.Inner.Search.{bothKnown};
-ghost use Rattle.derive.specs.Inner.Offers.{Adds, builtBy, keyGives, keyBuilt, keyOffers, tableOffers, wordOffers, setOffers};
+ghost use Rattle.derive.specs.Inner.Offers.{Adds, bothKnown, builtBy, keyGives, keyBuilt, keyOffers, tableOffers, wordOffers, setOffers};
 use crate::rules;
 
 // Puts an offer of this head into the table, x without the head.

@@ -115,7 +115,8 @@ pub fn sweep(
     e: u8,
 )
     requires { ⌜ Sizes (now remainders) (now used) (now empty) × (length (now columns) ≡ 256) ⌝ }
-    ensures { λ _. ⌜ ((live : ℕ → Bool) (s : ℕ → ℕ) (rows : List Row) → live e ≡ true → Kept live s rows (now (remainders .entry)) (now (used .entry)) (now (columns .entry)) (now (empty .entry)) → Kept live s (addRow rows e (reduce rows (s e))) (now (remainders .exit)) (now (used .exit)) (now (columns .exit)) (now (empty .exit))) ⌝ }
+    ensures sizes { λ _. ⌜ Sizes (now (remainders .exit)) (now (used .exit)) (now (empty .exit)) × (length (now (columns .exit)) ≡ 256) ⌝ }
+    ensures lines { λ _. ⌜ ((live : ℕ → Bool) (s : ℕ → ℕ) (rows : List Row) → live e ≡ true → Kept live s rows (now (remainders .entry)) (now (used .entry)) (now (columns .entry)) (now (empty .entry)) → Kept live s (addRow rows e (reduce rows (s e))) (now (remainders .exit)) (now (used .exit)) (now (columns .exit)) (now (empty .exit))) ⌝ }
 {
     let at = e as usize;
     let vector = remainders[at];

@@ -1,22 +1,26 @@
 // The bytes of the output buffer before its first step: the known set, and what is missing of a goal that is out of reach.
 ghost use mathlib.Core.Path.{_≡_};
-ghost use mathlib.Core.List.{_++_};
+ghost use mathlib.Core.List.{List, _++_};
 ghost use Prim.Native.Nat.{_≤_};
 ghost use lib.ListN.{length, drop};
 ghost use Rattle.bitset.specs.Words.{value};
 ghost use Rattle.deduction.specs.Setting.{switches};
-ghost use Rattle.knowledge.specs.Inner.Rows.{rowsOf};
-ghost use Rattle.knowledge.specs.Inner.State.{reducedOf};
+ghost use Rattle.deduction.specs.Elimination.{Row, reduce};
 ghost use Rattle.derive.specs.Inner.Ran.{verdictOf};
 ghost use Rattle.verdict.specs.Buffer.{front};
 ghost use Rattle.verdict.specs.Answer.{missingAs, missingBy, frontBytes};
-ghost use Rattle.verdict.specs.Inner.Decide.{isUnderivable};
+ghost use Rattle.verdict.specs.Inner.Decide.{isUnderivable, reducedOf};
 use derive::rules;
 use derive::run::Verdict;
-use knowledge::Reduced;
 
 // How many bytes stand before the first step: three sets.
 pub const FRONT: usize = 96;
+
+// What is left of a set, and the learnt entries used.
+pub struct Reduced {
+    pub remainder: [u64; 4],
+    pub used: [u64; 4],
+}
 
 // Is the goal out of reach?
 fn is_underivable(verdict: Verdict) -> bool
@@ -29,13 +33,12 @@ fn is_underivable(verdict: Verdict) -> bool
     }
 }
 
-// What is missing of an entry with this set: the sum test hands it back. Without the sum rule it is the set itself.
-fn missing_by(rules: u8, rows: &[u64; 2048], len: usize, set: [u64; 4]) -> Reduced
-    requires { ⌜ (length (now rows) ≡ 2048) × (len ≤ 256) ⌝ }
-    ensures { λ r. ⌜ reducedOf (r .remainder) (r .used) ≡ missingBy (switches rules) (rowsOf (now (rows .entry)) len) (value set) ⌝ }
+// What is missing of an entry with this set and this line: the line. Without the sum rule it is the set itself.
+fn missing_by(rules: u8, line: Reduced, set: [u64; 4]) -> Reduced
+    ensures { λ r. ⌜ ((rows : List Row) → reducedOf (line .remainder) (line .used) ≡ reduce rows (value set) → reducedOf (r .remainder) (r .used) ≡ missingBy (switches rules) rows (value set)) ⌝ }
 {
     if rules::is_on(rules, 6) {
-        return knowledge::reduce(rows, len, set);
+        return line;
     }
     Reduced {
         remainder: set,
@@ -44,18 +47,11 @@ fn missing_by(rules: u8, rows: &[u64; 2048], len: usize, set: [u64; 4]) -> Reduc
 }
 
 // What is missing of the goal, whose set is goal, at out of reach. Nothing is missing at the other verdicts.
-pub fn missing(
-    verdict: Verdict,
-    rules: u8,
-    rows: &[u64; 2048],
-    len: usize,
-    goal: [u64; 4],
-) -> Reduced
-    requires { ⌜ (length (now rows) ≡ 2048) × (len ≤ 256) ⌝ }
-    ensures { λ r. ⌜ reducedOf (r .remainder) (r .used) ≡ missingAs (verdictOf verdict) (missingBy (switches rules) (rowsOf (now (rows .entry)) len) (value goal)) ⌝ }
+pub fn missing(verdict: Verdict, rules: u8, line: Reduced, goal: [u64; 4]) -> Reduced
+    ensures { λ r. ⌜ ((rows : List Row) → reducedOf (line .remainder) (line .used) ≡ reduce rows (value goal) → reducedOf (r .remainder) (r .used) ≡ missingAs (verdictOf verdict) (missingBy (switches rules) rows (value goal))) ⌝ }
 {
     if is_underivable(verdict) {
-        return missing_by(rules, rows, len, goal);
+        return missing_by(rules, line, goal);
     }
     Reduced {
         remainder: bitset::empty(),

@@ -12,12 +12,14 @@ ghost use Rattle.verdict.specs.Demands.{Demanded};
 ghost use Rattle.verdict.specs.Agrees.{Agrees};
 ghost use Rattle.verdict.specs.Answer.{answerOf, bufferOf};
 ghost use Rattle.verdict.specs.Code.{numberOf, madeIn};
-ghost use Rattle.verdict.specs.Inner.Decide.{Decided};
+ghost use Rattle.knowledge.specs.Inner.Lines.{lineAt};
+ghost use Rattle.verdict.specs.Inner.Decide.{reducedOf, Decided};
 use dag::Refusal;
 use dag::sheet;
 use derive::rules;
 use derive::run::Ended;
 use derive::run::Verdict;
+use front::Reduced;
 
 mod front;
 
@@ -37,6 +39,17 @@ pub enum Answer {
     Exhausted(u16),
 }
 
+// Line k of the tables.
+fn line_of(remainders: &[[u64; 4]; 256], used: &[[u64; 4]; 256], k: u8) -> Reduced
+    ensures { λ r. ⌜ reducedOf (r .remainder) (r .used) ≡ lineAt (now (remainders .entry)) (now (used .entry)) k ⌝ }
+{
+    let at = k as usize;
+    Reduced {
+        remainder: remainders[at],
+        used: used[at],
+    }
+}
+
 // The verdict on a good sheet by the rules switched on, with the steps and what stands before them written to out.
 fn decide(s: &[u8], cut: u16, budget: u16, rules: u8, out: &mut [u8]) -> Ended
     requires { ⌜ (refusal (now s) ≡ 0) × (cut ≤ traceLength (now s)) × (budget ≤ 256) × (front + 40 * budget ≤ length (now out)) ⌝ }
@@ -47,18 +60,29 @@ fn decide(s: &[u8], cut: u16, budget: u16, rules: u8, out: &mut [u8]) -> Ended
     let mut reps = [0u8; 256];
     canonical::tables(s, &mut keys, &mut sets, &mut reps);
     let mut remainders = sets;
-    let start = start::state(s, cut, &keys, &sets, &reps, &mut remainders);
+    let mut used = [[0u64; 4]; 256];
+    let mut columns = [[0u64; 4]; 256];
+    let mut empty: [u64; 4] = [0, 0, 0, 0];
+    let start = start::state(
+        s,
+        cut,
+        &keys,
+        &reps,
+        &mut remainders,
+        &mut used,
+        &mut columns,
+        &mut empty,
+    );
     let known = start.known;
-    let mut rows = start.rows;
     let ended = derive::run::run(
         s,
         &keys,
-        &sets,
         &reps,
         known,
-        &mut rows,
-        start.len,
         &mut remainders,
+        &mut used,
+        &mut columns,
+        &mut empty,
         budget,
         rules,
         FRONT,
@@ -67,7 +91,8 @@ fn decide(s: &[u8], cut: u16, budget: u16, rules: u8, out: &mut [u8]) -> Ended
     let verdict = ended.verdict;
     let gained = ended.known;
     let goal = sheet::goal(s) as usize;
-    let missing = front::missing(verdict, rules, &rows, ended.len, sets[goal]);
+    let line = line_of(&remainders, &used, reps[goal]);
+    let missing = front::missing(verdict, rules, line, sets[goal]);
     front::write_front(gained, missing, out);
     ended
 }

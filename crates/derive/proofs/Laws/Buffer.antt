@@ -90,3 +90,13 @@ module _ (out : List ℕ) (from : ℕ) where
       ap (λ (l : List ℕ). take from out ++ l)
       (ap₂ _++_ (p ∙ ap (λ (l : List ℕ). b ++ drop 40 l) part-whole) (drop-of-length-le (drop from out) (le-of-eq (length-drop from out)))
       ∙ append-nil (b ++ drop 40 (drop from out)))
+
+  -- a step written there leaves the length
+  pub part-length : (s : Step) → from + 40 ≤ length out → length (take from out ++ (stepBytes s ++ drop 40 (drop from out))) ≡ length out
+  part-length s h =
+      length-append (take from out) (stepBytes s ++ drop 40 (drop from out))
+      ∙ ap₂ _+_ (length-take-le from out (omega arith)) (length-append (stepBytes s) (drop 40 (drop from out)) ∙ ap₂ _+_ (step-length s) (length-drop 40 (drop from out) ∙ ap (λ (m : ℕ). m - 40) (length-drop from out)))
+      ∙ back (length out) h
+    where
+      back : (m : ℕ) → from + 40 ≤ m → from + (40 + (m - from - 40)) ≡ m
+      back m l = omega arith

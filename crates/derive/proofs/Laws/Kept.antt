@@ -2,7 +2,7 @@
 -- Shown, for tables that are right for entries that refer downwards: `kept-start`, with the offers of all heads it holds what there is; `kept-learn`, after
 -- one more head is known, with the offers of that head and of its users it does again; `kept-next`, the next step by it is the theory's. The same for a
 -- good sheet: `sheet-start`, `sheet-learn`, `sheet-least`, and `sheet-users` for the table of users. Assumes nothing.
-use mathlib.Core.Path.{_≡_, sym, ap₂, _∙_, subst}
+use mathlib.Core.Path.{_≡_, sym, ap, ap₂, _∙_, subst}
 use mathlib.Core.Bool.{true, false}
 use mathlib.Core.List.{List, [], _∷_, _++_}
 use Prim.Native.Nat.{ℕ, _≤_, _<_}
@@ -21,32 +21,32 @@ use Rattle.dag.specs.Sheet.{countOf}
 use Rattle.dag.specs.Record.{entryAt}
 use Rattle.dag.specs.Refusal.{refusal}
 use Rattle.dag.proofs.Laws.Good.{good}
-use Rattle.canonical.specs.Inner.Tables.{Tabled}
 use Rattle.canonical.proofs.Laws.Key.{Narrow}
 use Rattle.canonical.proofs.Laws.Record.{Bytes, narrow-bytes}
-use Rattle.derive.specs.Inner.Offers.{lineOffers, listsOf, keyOffers, tableOffers, setOffers, uses, isHead, UsersOf, userIn, Filled, Adds, Covers, Kept, SumsOf, nextIn}
-use Rattle.derive.proofs.Laws.Table.{table-empty, adds-then, adds-as}
+use Rattle.derive.specs.Inner.Step.{Right}
+use Rattle.derive.specs.Inner.Offers.{lineOffers, listsOf, keyOffers, tableOffers, setOffers, uses, isHead, UsersOf, Filled, Adds, Covers, Kept, SumsOf, nextIn}
+use Rattle.derive.proofs.Laws.Table.{table-empty, adds-as}
 use Rattle.derive.proofs.Laws.Keys.{keys-line, keys-all, keys-set, users-of}
+use Rattle.derive.proofs.Laws.Users.{nobody}
 use Rattle.derive.proofs.Laws.Offers.{is-head, covers-start, covers-learn}
 use Rattle.derive.proofs.Laws.Next.{next-in}
 
 module _ (on : Setting) (e : ℕ → Entry) (n : ℕ) (down : Downward e n) (few : n ≤ 256) (narrow : Narrow e n)
     (halves : Halved e n)
-    (keys : List ℕ) (sets : List (List ℕ)) (reps : List ℕ) (right : Tabled e n keys sets reps) where
+    (keys reps : List ℕ) (right : Right e n keys reps) where
   pub kept-start : (g : ℕ) {best ready : List ℕ} → Adds (replicate 256 65535) (0 ∷ 0 ∷ 0 ∷ 0 ∷ []) best ready (tableOffers on g keys reps n) → Kept on e n g best ready
   kept-start g a = record {
     made = tableOffers on g keys reps n;
     table = a [] table-empty;
-    covers = subst (Covers g (tableOffers on g keys reps n)) (keys-all on e n down few narrow halves keys sets reps right g) (covers-start g (tableOffers on g keys reps n));
+    covers = subst (Covers g (tableOffers on g keys reps n)) (keys-all on e n down few narrow halves keys reps right g) (covers-start g (tableOffers on g keys reps n));
   }
 
   -- x is learnt, a head whose users are us
-  pub kept-learn : (g x us : ℕ) {best ready best′ ready′ best″ ready″ : List ℕ} → x < n → repAt e x ≡ x → UsersOf e n x us → Kept on e n g best ready
-      → Adds best ready best′ ready′ (keyOffers on (insert g x) (getD keys x 0) x) → Adds best′ ready′ best″ ready″ (setOffers on (insert g x) keys us 256)
-      → Kept on e n (insert g x) best″ ready″
-  kept-learn g x us lx hx users k a b = record {
+  pub kept-learn : (g x us : ℕ) {best ready best′ ready′ : List ℕ} → x < n → repAt e x ≡ x → UsersOf e n x us → Kept on e n g best ready
+      → Adds best ready best′ ready′ (keyOffers on (insert g x) (getD keys x 0) x ++ setOffers on (insert g x) keys us 256) → Kept on e n (insert g x) best′ ready′
+  kept-learn g x us lx hx users k a = record {
     made = k .made ++ (lineOffers on e n (insert g x) x ++ listsOf (lineOffers on e n (insert g x)) us 256);
-    table = adds-as (ap₂ _++_ (keys-line on e n down few narrow halves keys sets reps right (insert g x) x lx) (keys-set on e n down few narrow halves keys sets reps right (insert g x) us own 256 (le-refl 256))) (adds-then a b) (k .made) (k .table);
+    table = adds-as (ap₂ _++_ (keys-line on e n down few narrow halves keys reps right (insert g x) x lx) (keys-set on e n down few narrow halves keys reps right (insert g x) us own 256 (le-refl 256))) a (k .made) (k .table);
     covers = covers-learn on e n down few g x us lx hx users (k .covers);
   }
     where
@@ -57,22 +57,26 @@ module _ (on : Setting) (e : ℕ → Entry) (n : ℕ) (down : Downward e n) (few
   kept-next k sums t s = next-in on e n down few k sums (t .table) (t .covers) s
 
 -- for a good sheet, whose numbers are narrow since its elements are bytes
-module _ (on : Setting) (s : List ℕ) (ok : refusal s ≡ 0) (bytes : Bytes s) (keys : List ℕ) (sets : List (List ℕ)) (reps : List ℕ) (right : Tabled (entryAt s) (countOf s) keys sets reps) where
+module _ (on : Setting) (s : List ℕ) (ok : refusal s ≡ 0) (bytes : Bytes s) (keys reps : List ℕ) (right : Right (entryAt s) (countOf s) keys reps) where
   narrow : Narrow (entryAt s) (countOf s)
   narrow = narrow-bytes s (countOf s) bytes
 
-  pub sheet-start : (g : ℕ) {best ready : List ℕ} → Adds (replicate 256 65535) (0 ∷ 0 ∷ 0 ∷ 0 ∷ []) best ready (tableOffers on g keys reps (countOf s)) → Kept on (entryAt s) (countOf s) g best ready
-  sheet-start = kept-start on (entryAt s) (countOf s) (good s ok .downward) (good s ok .few) narrow (good s ok .halves) keys sets reps right
+  -- the tables of offers and users as the run makes them at its start
+  pub sheet-start : (g : ℕ) {n : ℕ} {best ready : List ℕ} → n ≡ countOf s → Adds (replicate 256 65535) (0 ∷ 0 ∷ 0 ∷ 0 ∷ []) best ready (tableOffers on g keys reps n) → Kept on (entryAt s) (countOf s) g best ready
+  sheet-start g p a =
+      kept-start on (entryAt s) (countOf s) (good s ok .downward) (good s ok .few) narrow (good s ok .halves) keys reps right g (adds-as (ap (tableOffers on g keys reps) p) a)
 
-  pub sheet-learn : (g x us : ℕ) {best ready best′ ready′ best″ ready″ : List ℕ} → x < countOf s → repAt (entryAt s) x ≡ x → UsersOf (entryAt s) (countOf s) x us
-      → Kept on (entryAt s) (countOf s) g best ready → Adds best ready best′ ready′ (keyOffers on (insert g x) (getD keys x 0) x)
-      → Adds best′ ready′ best″ ready″ (setOffers on (insert g x) keys us 256) → Kept on (entryAt s) (countOf s) (insert g x) best″ ready″
-  sheet-learn = kept-learn on (entryAt s) (countOf s) (good s ok .downward) (good s ok .few) narrow (good s ok .halves) keys sets reps right
+  pub sheet-learn : (g x us : ℕ) {best ready best′ ready′ : List ℕ} → x < countOf s → repAt (entryAt s) x ≡ x → UsersOf (entryAt s) (countOf s) x us
+      → Kept on (entryAt s) (countOf s) g best ready → Adds best ready best′ ready′ (keyOffers on (insert g x) (getD keys x 0) x ++ setOffers on (insert g x) keys us 256)
+      → Kept on (entryAt s) (countOf s) (insert g x) best′ ready′
+  sheet-learn = kept-learn on (entryAt s) (countOf s) (good s ok .downward) (good s ok .few) narrow (good s ok .halves) keys reps right
 
   pub sheet-least : (k : Knowledge) (sums : ℕ) {best ready : List ℕ} → Kept on (entryAt s) (countOf s) (k .known) best ready → SumsOf (entryAt s) (countOf s) k sums
       → nextIn on best (value ready) sums (k .known) ≡ nextNumber on (entryAt s) (countOf s) k
-  sheet-least = kept-next on (entryAt s) (countOf s) (good s ok .downward) (good s ok .few) narrow (good s ok .halves) keys sets reps right
+  sheet-least = kept-next on (entryAt s) (countOf s) (good s ok .downward) (good s ok .few) narrow (good s ok .halves) keys reps right
 
-  pub sheet-users : {users₀ users : List (List ℕ)} → ((x k : ℕ) → x < 256 → userIn users₀ x k ≡ false) → Filled keys reps (countOf s) users₀ users
-      → (x : ℕ) → x < 256 → UsersOf (entryAt s) (countOf s) x (value (getD users x []))
-  sheet-users = users-of (entryAt s) (countOf s) (good s ok .downward) (good s ok .few) narrow keys sets reps right
+  pub sheet-users : {n : ℕ} {users : List (List ℕ)} → n ≡ countOf s → Filled keys reps n (replicate 256 (0 ∷ 0 ∷ 0 ∷ 0 ∷ [])) users → (x : ℕ) → x < 256
+      → UsersOf (entryAt s) (countOf s) x (value (getD users x []))
+  sheet-users {users = users} p f =
+      users-of (entryAt s) (countOf s) (good s ok .downward) (good s ok .few) narrow keys reps right nobody
+      (subst (λ (n : ℕ). Filled keys reps n (replicate 256 (0 ∷ 0 ∷ 0 ∷ 0 ∷ [])) users) p f)

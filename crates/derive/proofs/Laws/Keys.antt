@@ -1,29 +1,60 @@
 -- The offers read off the keys are the offers of the entries.
 -- Shown, for tables that are right for entries that refer downwards: `keys-line`, of one entry; `keys-all`, of the first m heads; `keys-set`, of a set's
--- members; and `users-of`, the users read off the keys are those of the entries. Assumes nothing.
-use mathlib.Core.Path.{_≡_, refl, ap, ap₂, _∙_}
+-- members; and `users-of`, the users read off the keys are those of the entries. Before it: what a key says of its parts. Assumes nothing.
+use mathlib.Core.Path.{_≡_, refl, sym, ap, ap₂, _∙_, subst}
 use mathlib.Core.Bool.{Bool, true, false, cond, _&&_, _||_, or-false}
-use mathlib.Core.Logic.{inl, inr}
+use mathlib.Core.Logic.{_⊎_, inl, inr, ⊎-elim}
 use mathlib.Core.List.{List, [], _++_, List·Memᴰ, List·Memᴰ·head, List·Memᴰ·tail}
 use Prim.Native.Nat.{ℕ, zero, suc, _+_, _*_, _^_, _≤_, _<_}
 use native.Mathlib.Omega.{arith}
 use lib.Dec.{eqb, ltb}
 use lib.ListN.{getD}
-use borrow.Author.Tests.{ltb-true}
+use borrow.Author.Tests.{ltb-true, ne-eqb}
 use Rattle.bitset.specs.Set.{member}
 use Rattle.bitset.specs.Words.{value}
+use Rattle.deduction.specs.Term.{Side}
 use Rattle.deduction.specs.Setting.{Setting}
 use Rattle.deduction.specs.Entry.{Entry, Zero, Atom, Pair, Enc, Sum, Half, Aenc, parts, Downward}
-use Rattle.deduction.specs.Standard.{repAt}
+use Rattle.deduction.specs.Standard.{halfKind, repAt}
 use Rattle.deduction.specs.Run.{opener, anyHalf, built}
 use Rattle.deduction.proofs.Standard.{rep-le}
+use Rattle.deduction.proofs.Standard.First.{half-range}
+use Rattle.deduction.proofs.Steps.Head.{rep-half}
 use Rattle.deduction.proofs.Steps.Opener.{Halved, opener-le}
-use Rattle.canonical.specs.Inner.Key.{keyOf, openerOf}
-use Rattle.canonical.specs.Inner.Tables.{Tabled}
+use Rattle.canonical.specs.Inner.Key.{keyOf, keyKind, keyLeft, keyRight, keyOpener, openerOf}
 use Rattle.canonical.proofs.Laws.Key.{numberOf, Narrow}
-use Rattle.derive.specs.Inner.Search.{bothKnown}
-use Rattle.derive.specs.Inner.Offers.{gives, lineOffers, headOffers, plainOffers, listsOf, builtBy, keyGives, keyBuilt, keyOffers, tableOffers, setOffers, uses, isHead, UsersOf, keyOpened, keyUses, headUses, userIn, Filled}
-use Rattle.derive.proofs.Laws.Search.{open-kind, open-left, open-right, open-opener, number-apart, half-apart, key-half}
+use Rattle.derive.specs.Inner.Step.{Right}
+use Rattle.derive.specs.Inner.Offers.{bothKnown, gives, lineOffers, headOffers, plainOffers, listsOf, builtBy, keyGives, keyBuilt, keyOffers, tableOffers, setOffers, uses, isHead, UsersOf, keyOpened, keyUses, headUses, userIn, Filled}
+
+-- an entry's key K with what opens it, said by parts
+module _ (K k a b o : ℕ) (hk : k < 256) (ha : a < 256) (hb : b < 256) (ho : o ≤ 256) (q : K ≡ k * 2 ^ 32 + a * 256 + b + o * 65536) where
+  pub open-kind : keyKind K ≡ k
+  open-kind = omega arith
+
+  pub open-left : keyLeft K ≡ a
+  open-left = omega arith
+
+  pub open-right : keyRight K ≡ b
+  open-right = omega arith
+
+  pub open-opener : keyOpener K ≡ o
+  open-opener = omega arith
+
+-- an entry with a number has no kind with parts
+pub number-apart : (k K a n : ℕ) → k < 256 → a < 2 ^ 32 → K ≡ k * 2 ^ 32 + a + 0 * 65536 → ¬ (k ≡ n) → eqb (keyKind K) n ≡ false
+number-apart k K a n hk ha q f = ne-eqb (keyKind K) n (λ (p : keyKind K ≡ n). f (omega arith))
+
+-- nor has a half
+pub half-apart : (s : Side) (a K n : ℕ) → a < 2 ^ 32 → K ≡ halfKind s * 2 ^ 32 + a + 0 * 65536 → (n ≤ 3) ⊎ (7 ≤ n) → eqb (keyKind K) n ≡ false
+half-apart s a K n ha q l = number-apart (halfKind s) K a n (omega (arith, half-range s)) ha q (λ (p : halfKind s ≡ n). ⊎-elim (λ (h : n ≤ 3). omega (arith, half-range s)) (λ (h : 7 ≤ n). omega (arith, half-range s)) l)
+
+-- the key of a lock is a half
+key-half : (e : ℕ → Entry) (n : ℕ) → Downward e n → Halved e n → (i m k : ℕ) → i < n → e i ≡ Aenc m k → anyHalf (e (repAt e k)) ≡ true
+unfolding anyHalf parts
+key-half e n down halves i m k l p =
+    let (s, a, q) = halves i m k l p in
+    let lk : k < n = omega (arith, down i k l (subst (λ (d : Entry). List·Memᴰ k (parts d)) (sym p) (List·Memᴰ·tail (List·Memᴰ·head refl)))) in
+    ap anyHalf (rep-half e n down k s a lk q)
 
 -- an entry with the record d and the key K
 module _ (e : ℕ → Entry) (n : ℕ) (few : n ≤ 256) where
@@ -147,7 +178,7 @@ unfolding tableOffers
 table-more on g keys reps m = let p : suc m ≡ m + 1 = omega arith in ap (tableOffers on g keys reps) p
 
 -- tables that are right
-module _ (e : ℕ → Entry) (n : ℕ) (down : Downward e n) (few : n ≤ 256) (narrow : Narrow e n) (keys : List ℕ) (sets : List (List ℕ)) (reps : List ℕ) (right : Tabled e n keys sets reps) where
+module _ (e : ℕ → Entry) (n : ℕ) (down : Downward e n) (few : n ≤ 256) (narrow : Narrow e n) (keys reps : List ℕ) (right : Right e n keys reps) where
   keyed : (i : ℕ) → i < n → Keyed e n few (e i) (getD keys i 0)
   keyed i l = (right .key i l, λ j m. omega (arith, rep-le e j, down i j l m), narrow i l)
 
@@ -164,12 +195,12 @@ module _ (e : ℕ → Entry) (n : ℕ) (down : Downward e n) (few : n ≤ 256) (
 
 module _ (on : Setting) (e : ℕ → Entry) (n : ℕ) (down : Downward e n) (few : n ≤ 256) (narrow : Narrow e n)
     (halves : Halved e n)
-    (keys : List ℕ) (sets : List (List ℕ)) (reps : List ℕ) (right : Tabled e n keys sets reps) (g : ℕ) where
+    (keys reps : List ℕ) (right : Right e n keys reps) (g : ℕ) where
   pub keys-line : (i : ℕ) → i < n → keyOffers on g (getD keys i 0) i ≡ lineOffers on e n g i
   unfolding keyOffers lineOffers
   keys-line i l =
-      ap₂ (cond (member g i)) (key-gives on e n g i few (e i) (getD keys i 0) (keyed e n down few narrow keys sets reps right i l))
-      (key-built on e n g i few (e i) (getD keys i 0) (keyed e n down few narrow keys sets reps right i l) (λ m k. key-half on e n down few narrow halves keys sets reps right i m k l))
+      ap₂ (cond (member g i)) (key-gives on e n g i few (e i) (getD keys i 0) (keyed e n down few narrow keys reps right i l))
+      (key-built on e n g i few (e i) (getD keys i 0) (keyed e n down few narrow keys reps right i l) (λ m k. key-half e n down halves i m k l))
 
   keys-upto : (m : ℕ) → m ≤ n → tableOffers on g keys reps m ≡ plainOffers on e n g m
   unfolding tableOffers plainOffers headOffers

@@ -19,7 +19,6 @@ use Rattle.deduction.specs.Standard.{least, repAt}
 use Rattle.deduction.specs.Elimination.{Knowledge}
 use Rattle.deduction.specs.Run.{noStep, opener, byRule, built, isSumOf}
 use Rattle.canonical.specs.Inner.Key.{keyKind, keyLeft, keyRight, keyOpener}
-use Rattle.derive.specs.Inner.Search.{bothKnown}
 
 -- For the rules switched on, n entries `e` and the known set g
 module _ (on : Setting) (e : ℕ → Entry) (n g : ℕ) where
@@ -50,6 +49,10 @@ module _ (on : Setting) (e : ℕ → Entry) (n g : ℕ) where
 unfoldable pub listsOf : (ℕ → List ℕ) → ℕ → ℕ → List ℕ
 listsOf f s zero = []
 listsOf f s (suc m) = listsOf f s m ++ cond (member s m) (f m) []
+
+-- are both parts of a pair or an encryption of either sort known?
+unfoldable pub bothKnown : ℕ → ℕ → Bool
+bothKnown g key = member g (keyLeft key) && member g (keyRight key)
 
 -- the rule by which an entry of this kind is built, and 0 where there is none
 unfoldable pub builtBy : ℕ → ℕ

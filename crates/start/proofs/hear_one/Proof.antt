@@ -23,7 +23,7 @@ hear-requires c κs = let s = c .before .before .before .before .before .before 
 returns : tie.Need-returns
 returns c = let s = c .before .before .before .before .before .before .before in let e = s .args .e in
     λ live f es lives h. let l = lives e (List·Memᴰ·head refl) in
-    heard-more h e l (omega arith) (c .hear .result) (c .hear .ensures .0 (learnAll f nothing es) (f e) (h .state) (heard-line h e l)) (c .hear .ensures .1) (c .before .sweep .ensures live f (learnAll f nothing es .rows) l (h .kept))
+    heard-more h e l (omega arith) (c .hear .result) (c .hear .ensures .0 (learnAll f nothing es) (f e) (h .state) (heard-line h e l)) (c .hear .ensures .1) (c .before .sweep .ensures .1 live f (learnAll f nothing es .rows) l (h .kept))
 
 pub hear-one-spec : {M : Type 1} → statement M
 hear-one-spec =

@@ -1,20 +1,23 @@
 -- From the run over the tables to the verdict on a sheet. Assumes nothing.
 use mathlib.Core.Path.{_≡_, sym, ap, ap₂, _∙_}
+use mathlib.Core.Bool.{true, _&&_}
 use mathlib.Core.List.{List, _++_}
-use Prim.Native.Nat.{ℕ, _+_, _*_, _≤_}
+use Prim.Native.Nat.{ℕ, _+_, _*_, _≤_, _<_}
 use native.Mathlib.Nat.{le-trans, le-of-eq}
 use native.Mathlib.Omega.{arith}
-use lib.ListN.{length, take, drop, length-append}
+use lib.ListN.{length, getD, take, drop, length-append}
 use lib.Seq.{drop-at, length-take-le}
+use borrow.Author.Tests.{eq-eqb, lt-ltb}
 use Rattle.bitset.specs.Words.{value}
 use Rattle.deduction.specs.Setting.{Setting}
-use Rattle.deduction.specs.Standard.{setAt}
+use Rattle.deduction.specs.Standard.{setAt, repAt}
+use Rattle.deduction.specs.Elimination.{Row, reduce}
 use Rattle.deduction.specs.Step.{Step}
 use Rattle.deduction.specs.Run.{knowledge}
+use Rattle.deduction.proofs.Standard.{rep-le, rep-rep, rep-set}
 use Rattle.dag.specs.Sheet.{countOf, goalOf}
 use Rattle.dag.specs.Record.{entryAt}
-use Rattle.knowledge.specs.Inner.Rows.{rowsOf}
-use Rattle.knowledge.specs.Inner.State.{stateOf, reducedOf}
+use Rattle.knowledge.specs.Inner.Lines.{lineAt, headIn}
 use Rattle.derive.specs.Bytes.{stepsBytes}
 use Rattle.derive.specs.Inner.Machine.{Ended, machine}
 use Rattle.derive.specs.Inner.Ran.{verdictOf, endOf, Ran}
@@ -23,22 +26,22 @@ use Rattle.derive.proofs.Laws.Machine.{asEnded, machine-run}
 use Rattle.verdict.specs.Buffer.{front}
 use Rattle.verdict.specs.Answer.{outcomeOf, missingAs, missingBy, missingOf, frontBytes, frontOf}
 use Rattle.start.specs.Start.{startHeads}
-use Rattle.verdict.specs.Inner.Decide.{Decided}
+use Rattle.verdict.specs.Inner.Decide.{reducedOf, Decided}
 
-module _ (on : Setting) (s : List ℕ) (cut budget : ℕ) (known rows : List ℕ) (len : ℕ) (state : stateOf known rows len ≡ knowledge (entryAt s) (startHeads s cut)) where
-  ends : endOf on s budget known rows len ≡ asEnded (entryAt s) (outcomeOf on s cut budget)
+module _ (on : Setting) (s : List ℕ) (cut budget : ℕ) where
+  ends : endOf on s budget (knowledge (entryAt s) (startHeads s cut)) ≡ asEnded (entryAt s) (outcomeOf on s cut budget)
   unfolding outcomeOf
-  ends = ap (machine on (entryAt s) (countOf s) (goalOf s) budget) state ∙ machine-run on (entryAt s) (countOf s) (goalOf s) budget (startHeads s cut)
+  ends = machine-run on (entryAt s) (countOf s) (goalOf s) budget (startHeads s cut)
 
-  module _ (remainders : List (List ℕ)) (out : List ℕ) (r : program.Ended) (rows′ : List ℕ) (remainders′ : List (List ℕ)) (out′ : List ℕ)
-      (ran : Ran on s known rows len remainders budget front out r rows′ remainders′ out′) where
+  module _ (reps out : List ℕ) (r : program.Ended) (rs us cs : List (List ℕ)) (es out′ : List ℕ)
+      (ran : Ran on s reps (knowledge (entryAt s) (startHeads s cut)) budget front out r rs us cs es out′) where
     verdict : verdictOf (r .verdict) ≡ outcomeOf on s cut budget .verdict
     verdict = ran .verdict ∙ ap (λ (o : Ended). o .verdict) ends
 
-    final : stateOf (r .known) rows′ (r .len) ≡ knowledge (entryAt s) (outcomeOf on s cut budget .learnt)
-    final = ran .state ∙ ap (λ (o : Ended). o .final) ends
+    known : value (r .known) ≡ knowledge (entryAt s) (outcomeOf on s cut budget .learnt) .known
+    known = ran .known ∙ ap (λ (o : Ended). o .final .known) ends
 
-    steps : endOf on s budget known rows len .steps ≡ outcomeOf on s cut budget .steps
+    steps : endOf on s budget (knowledge (entryAt s) (startHeads s cut)) .steps ≡ outcomeOf on s cut budget .steps
     steps = ap (λ (o : Ended). o .steps) ends
 
     count : r .made ≡ length (outcomeOf on s cut budget .steps)
@@ -51,25 +54,42 @@ module _ (on : Setting) (s : List ℕ) (cut budget : ℕ) (known rows : List ℕ
         at-least : (a b l : List ℕ) → l ≡ a ++ b → length a ≤ length l
         at-least a b l p = omega (arith, ap length p ∙ length-append a b)
 
-    -- what is missing of the goal's set by the rows at the end is what is missing of the goal
-    missing : (goal remainder used : List ℕ) → value goal ≡ setAt (entryAt s) (goalOf s)
-        → reducedOf remainder used ≡ missingAs (verdictOf (r .verdict)) (missingBy on (rowsOf rows′ (r .len)) (value goal)) → reducedOf remainder used ≡ missingOf on s cut budget
-    unfolding missingOf
-    missing goal remainder used set found = found ∙ (λ i. missingAs (verdict i) (missingBy on (final i .rows) (set i)))
+    module _ (right : (i : ℕ) → i < countOf s → getD reps i 0 ≡ repAt (entryAt s) i) (within : goalOf s < countOf s) where
+      -- the line of the goal's head is what the rows at the end leave of the goal's set
+      goal-line : lineAt rs us (repAt (entryAt s) (goalOf s)) ≡ reduce (knowledge (entryAt s) (outcomeOf on s cut budget .learnt) .rows) (setAt (entryAt s) (goalOf s))
+      goal-line =
+          ran .lines .line (repAt (entryAt s) (goalOf s)) live
+          ∙ ap₂ (λ (o : Ended) (v : ℕ). reduce (o .final .rows) v) ends (rep-set (entryAt s) (goalOf s))
+        where
+          below : repAt (entryAt s) (goalOf s) < countOf s
+          below = omega (arith, rep-le (entryAt s) (goalOf s), within)
 
-    pub decided : (goal remainder used : List ℕ) → value goal ≡ setAt (entryAt s) (goalOf s)
-        → reducedOf remainder used ≡ missingAs (verdictOf (r .verdict)) (missingBy on (rowsOf rows′ (r .len)) (value goal)) → front ≤ length out
-        → (out″ : List ℕ) → out″ ≡ frontBytes (value (r .known)) (value used) (value remainder) ++ drop front out′ → Decided on s cut budget out out″ r
-    unfolding frontOf
-    decided goal remainder used set found space out″ written =
-        let m = missing goal remainder used set found in
-        let rest = stepsBytes (endOf on s budget known rows len .steps) ++ drop (front + 40 * r .made) out in
-        record {
-          verdict = verdict;
-          count = count;
-          bytes =
-              written
-              ∙ ap₂ _++_ (λ i. frontBytes (final i .known) (m i .used) (m i .remainder))
-              (ap (drop front) (ran .bytes) ∙ drop-at (take front out) rest front (length-take-le front out space)
-              ∙ ap₂ (λ (ss : List Step) (k : ℕ). stepsBytes ss ++ drop (front + 40 * k) out) steps count);
-        }
+          live : headIn reps (countOf s) (repAt (entryAt s) (goalOf s)) ≡ true
+          live =
+              ap₂ _&&_ (lt-ltb (repAt (entryAt s) (goalOf s)) (countOf s) below)
+              (eq-eqb (getD reps (repAt (entryAt s) (goalOf s)) 0) (repAt (entryAt s) (goalOf s)) (right (repAt (entryAt s) (goalOf s)) below ∙ rep-rep (entryAt s) (goalOf s)))
+
+      module _ (goal remainder used line-remainder line-used : List ℕ) (head : ℕ) (set : value goal ≡ setAt (entryAt s) (goalOf s))
+          (at : head ≡ getD reps (goalOf s) 0) (read : reducedOf line-remainder line-used ≡ lineAt rs us head)
+          (found : (rows : List Row) → reducedOf line-remainder line-used ≡ reduce rows (value goal) → reducedOf remainder used ≡ missingAs (verdictOf (r .verdict)) (missingBy on rows (value goal))) where
+        -- so what is missing of the goal is read off it
+        missing : reducedOf remainder used ≡ missingOf on s cut budget
+        unfolding missingOf
+        missing =
+            found (knowledge (entryAt s) (outcomeOf on s cut budget .learnt) .rows)
+            (read ∙ ap (lineAt rs us) (at ∙ right (goalOf s) within) ∙ goal-line ∙ ap (reduce (knowledge (entryAt s) (outcomeOf on s cut budget .learnt) .rows)) (sym set))
+            ∙ (λ i. missingAs (verdict i) (missingBy on (knowledge (entryAt s) (outcomeOf on s cut budget .learnt) .rows) (set i)))
+
+        pub decided : front ≤ length out → (out″ : List ℕ) → out″ ≡ frontBytes (value (r .known)) (value used) (value remainder) ++ drop front out′ → Decided on s cut budget out out″ r
+        unfolding frontOf
+        decided space out″ written =
+            let rest = stepsBytes (endOf on s budget (knowledge (entryAt s) (startHeads s cut)) .steps) ++ drop (front + 40 * r .made) out in
+            record {
+              verdict = verdict;
+              count = count;
+              bytes =
+                  written
+                  ∙ ap₂ _++_ (λ i. frontBytes (known i) (missing i .used) (missing i .remainder))
+                  (ap (drop front) (ran .bytes) ∙ drop-at (take front out) rest front (length-take-le front out space)
+                  ∙ ap₂ (λ (ss : List Step) (k : ℕ). stepsBytes ss ++ drop (front + 40 * k) out) steps count);
+            }

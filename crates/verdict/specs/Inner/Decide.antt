@@ -1,16 +1,22 @@
--- What the inner functions that decide hand back. Defined: `isUnderivable`; `Decided`, the verdict on a good sheet.
+-- What the inner functions that decide hand back. Defined: `reducedOf`, what is left of a set; `isUnderivable`; `Decided`, the verdict on a good sheet.
 use Prim.Native.Nat.{ℕ, _+_, _*_}
 use mathlib.Core.Path.{_≡_}
 use mathlib.Core.Bool.{Bool, true, false}
 use mathlib.Core.List.{List, _++_}
 use lib.ListN.{length, drop}
 use Rattle.deduction.specs.Setting.{Setting}
+use Rattle.bitset.specs.Words.{value}
+use Rattle.deduction.specs.Elimination.{Reduced}
 use Rattle.deduction.specs.Run.{Verdict, derivable, underivable, exhausted}
 use Rattle.derive.specs.Inner.Ran.{verdictOf}
 use Rattle.derive.specs.Bytes.{stepsBytes}
 use Rattle.derive.specs.declared.run.Ended.{Ended}
 use Rattle.verdict.specs.Buffer.{front}
 use Rattle.verdict.specs.Answer.{outcomeOf, frontOf}
+
+-- the remainder's words and the used set's
+abbrev pub reducedOf : List ℕ → List ℕ → Reduced
+reducedOf remainder used = record { remainder = value remainder; used = value used }
 
 unfoldable pub isUnderivable : Verdict → Bool
 isUnderivable derivable = false

@@ -1,23 +1,31 @@
--- `derive::next::gained` meets its contract: the least of two.
-use mathlib.Core.Path.{ap₂, _∙_}
-use Prim.Native.Nat.{min}
+-- `derive::next::gained` meets its contract: by the rule's switch.
+use mathlib.Core.Path.{sym, ap, _∙_}
+use mathlib.Core.Bool.{Bool, _&&_}
+use Prim.Native.Nat.{ℕ}
+use Rattle.bitset.specs.Set.{member}
+use Rattle.bitset.specs.Words.{value}
+use Rattle.bitset.proofs.Laws.Member.{member-empty}
+use Rattle.derive.specs.Inner.Offers.{summed}
 use borrow.Author.Needs.{needs}
-use Rattle.derive.specs.Inner.Search.{gainedLeast}
 use Rattle.derive.proofs.next.gained.Statement.{statement}
 use Rattle.derive.proofs.next.gained.Tie as tie
 
-by-rule-requires : tie.Need-by-rule-requires
-by-rule-requires c κs = search needs
-
-summed-up-requires : tie.Need-summed-up-requires
-summed-up-requires c κs = search needs
-
-least-requires : tie.Need-least-requires
-least-requires c κs = search needs
+is-on-requires : tie.Need-is-on-requires
+is-on-requires c κs = search needs
 
 returns : tie.Need-returns
-unfolding gainedLeast
-returns c = c .least .ensures ∙ ap₂ min (c .before .before .by-rule .ensures) (c .before .summed-up .ensures)
+unfolding summed
+returns c = λ h. let o = c .before in
+    ap (λ (b : Bool). b && member (value (o .before .args .sums)) h) (sym (c .if1 .taken) ∙ o .is-on .ensures)
+
+empty-requires : tie.Need-empty-requires
+empty-requires c κs = search needs
+
+returns-2 : tie.Need-returns-2
+unfolding summed
+returns-2 c = λ h. let o = c .before .before in
+    ap (λ (x : ℕ). member x h) (c .empty .ensures) ∙ member-empty h
+    ∙ ap (λ (b : Bool). b && member (value (o .before .args .sums)) h) (sym (c .before .if1 .left) ∙ o .is-on .ensures)
 
 pub gained-spec : {M : Type 1} → statement M
-gained-spec = tie.close (tie.spec by-rule-requires summed-up-requires least-requires returns)
+gained-spec = tie.close (tie.spec is-on-requires returns empty-requires returns-2)

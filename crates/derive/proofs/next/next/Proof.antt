@@ -1,83 +1,50 @@
--- `derive::next::next` meets its contract. The loop's invariant: the least number of the lines so far.
-use mathlib.Core.Path.{_≡_, refl, ap, _∙_}
-use mathlib.Core.Logic.{⊎-elim}
-use Prim.Native.Nat.{_-_, _≤_}
+-- `derive::next::next` meets its contract: by the lowest head that waits.
+use mathlib.Core.Path.{_∙_}
 use native.Mathlib.Omega.{arith}
-use borrow.Author.Needs.{needs}
 use denote.Ref.{now}
 use Rattle.bitset.specs.Words.{value}
 use Rattle.deduction.specs.Setting.{switches}
-use Rattle.derive.specs.Inner.Search.{searchLeast}
-use Rattle.derive.proofs.Laws.Line.{search-line, search-skip}
+use Rattle.derive.proofs.Laws.Waiting.{next-none, next-found}
+use borrow.Author.Needs.{needs}
 use Rattle.derive.proofs.next.next.Statement.{statement}
 use Rattle.derive.proofs.next.next.Tie as tie
 
-abbrev Inv-loop : tie.InvT-loop
-Inv-loop keys reps n known remainders rules best₀ i₀ best i =
-    (i ≤ n) × (n ≤ 256) × (best ≡ searchLeast (switches rules) (value known) keys reps remainders i)
+gained-requires : tie.Need-gained-requires
+gained-requires c κs = search needs
 
-abbrev μ-loop : tie.MeasureT-loop
-μ-loop keys reps n known remainders rules best₀ i₀ best i =
-    n - i
+union-requires : tie.Need-union-requires
+union-requires c κs = search needs
 
-loop-holds : tie.Need-loop-holds Inv-loop μ-loop
-unfolding searchLeast
-loop-holds c = (search needs, search needs, refl)
+minus-requires : tie.Need-minus-requires
+minus-requires c κs = search needs
 
-cast-e : tie.Need-cast-e Inv-loop μ-loop
-cast-e c = search needs
+lowest-of-requires : tie.Need-lowest-of-requires
+lowest-of-requires c κs = search needs
 
-element-copy-out-if1 : tie.Need-element-copy-out-if1 Inv-loop μ-loop
-element-copy-out-if1 c = search needs
+returns : tie.Need-returns
+returns c = let h = c .before in
+    let w = h .before in
+    let u = w .before in
+    let a = u .before in
+    let s = a .before .args in
+    next-none (switches (s .rules)) (now (s .best)) (value (s .ready)) (value (s .sums)) (value (s .known)) (value (a .gained .result)) (value (u .union .result)) (value (w .minus .result)) (h .lowest-of .result)
+    (a .gained .ensures) (u .union .ensures) (w .minus .ensures) (h .lowest-of .ensures) (c .if1 .taken)
 
-mul-offered-by : tie.Need-mul-offered-by Inv-loop μ-loop
-mul-offered-by c = search needs
+cast-least-step : tie.Need-cast-least-step
+cast-least-step c = omega (arith, c .if1 .left, c .before .lowest-of .ensures .within)
 
-element-copy-out-offered-by : tie.Need-element-copy-out-offered-by Inv-loop μ-loop
-element-copy-out-offered-by c = search needs
+least-step-requires : tie.Need-least-step-requires
+least-step-requires c κs = search needs
 
-offered-by-requires : tie.Need-offered-by-requires Inv-loop μ-loop
-offered-by-requires c κs = search needs
-
-least-requires : tie.Need-least-requires Inv-loop μ-loop
-least-requires c κs = search needs
-
-add-i : tie.Need-add-i Inv-loop μ-loop
-add-i c = search needs
-
-loop-less : tie.Need-loop-less Inv-loop μ-loop
-loop-less c = search needs
-
-loop-again : tie.Need-loop-again Inv-loop μ-loop
-loop-again c = let b = c .before .before .before in
-    let a = b .before .args in
-    let l = b .loop in
-    let g = value (a .known) in (
-      omega arith,
-      l .inv .1,
-      ⊎-elim (λ w. w .4 ∙ search-line (switches (a .rules)) g (now (a .keys)) (now (a .reps)) (now (a .remainders)) (l .i) (l .inv .2) (w .0 .taken) (w .2 .ensures) (w .3 .ensures))
-          (λ w. w .1 ∙ search-skip (switches (a .rules)) g (now (a .keys)) (now (a .reps)) (now (a .remainders)) (l .i) (l .inv .2) (w .0 .left)) (c .if1 .came),
-    )
-
-returns : tie.Need-returns Inv-loop μ-loop
-returns c = let a = c .before .before .args in
-    let l = c .before .loop in
-    l .inv .2 ∙ ap (searchLeast (switches (a .rules)) (value (a .known)) (now (a .keys)) (now (a .reps)) (now (a .remainders))) (omega arith)
+returns-2 : tie.Need-returns-2
+returns-2 c = let h = c .before .before in
+    let w = h .before in
+    let u = w .before in
+    let a = u .before in
+    let s = a .before .args in
+    c .least-step .ensures
+    ∙ next-found (switches (s .rules)) (now (s .best)) (value (s .ready)) (value (s .sums)) (value (s .known)) (value (a .gained .result)) (value (u .union .result)) (value (w .minus .result)) (h .lowest-of .result)
+    (a .gained .ensures) (u .union .ensures) (w .minus .ensures) (h .lowest-of .ensures) (c .before .if1 .left)
 
 pub next-spec : {M : Type 1} → statement M
-next-spec =
-    tie.close
-    (tie.spec
-    Inv-loop
-    μ-loop
-    loop-holds
-    cast-e
-    element-copy-out-if1
-    mul-offered-by
-    element-copy-out-offered-by
-    offered-by-requires
-    least-requires
-    add-i
-    loop-less
-    loop-again
-    returns)
+next-spec = tie.close (tie.spec gained-requires union-requires minus-requires lowest-of-requires returns cast-least-step least-step-requires returns-2)

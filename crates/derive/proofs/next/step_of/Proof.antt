@@ -1,11 +1,9 @@
 -- `derive::next::step_of` meets its contract: a sum, or any other rule.
-use mathlib.Core.Path.{ap, _∙_}
+use mathlib.Core.Path.{_∙_}
 use borrow.Author.Needs.{needs}
 use denote.Ref.{now}
-use Rattle.deduction.specs.Elimination.{Reduced}
-use Rattle.knowledge.specs.Inner.Rows.{rowsOf}
-use Rattle.derive.specs.Inner.Search.{stepIn}
-use Rattle.derive.proofs.Laws.Line.{step-other, step-sum}
+use Rattle.derive.specs.Inner.Step.{stepIn}
+use Rattle.derive.proofs.Laws.Step.{step-other, step-sum}
 use Rattle.derive.proofs.next.step_of.Statement.{statement}
 use Rattle.derive.proofs.next.step_of.Tie as tie
 
@@ -28,38 +26,22 @@ returns : tie.Need-returns
 unfolding stepIn
 returns c = let t = c .before .before in
     let a = t .before .args in
-    c .without-set .ensures ∙ step-other (now (a .keys)) (now (a .sets)) (rowsOf (now (a .rows)) (a .len)) _ _ _ (t .if1 .taken) (c .before .second-source .ensures)
+    c .without-set .ensures ∙ step-other (now (a .keys)) (now (a .used)) _ _ _ (t .if1 .taken) (c .before .second-source .ensures)
 
-cast-reduce : tie.Need-cast-reduce
-cast-reduce c = search needs
+cast-set : tie.Need-cast-set
+cast-set c = search needs
 
-mul-reduce : tie.Need-mul-reduce
-mul-reduce c = search needs
+mul-set : tie.Need-mul-set
+mul-set c = search needs
 
-element-copy-out-reduce : tie.Need-element-copy-out-reduce
-element-copy-out-reduce c = search needs
-
-reduce-requires : tie.Need-reduce-requires
-reduce-requires c κs = search needs
+element-copy-out-set : tie.Need-element-copy-out-set
+element-copy-out-set c = search needs
 
 returns-2 : tie.Need-returns-2
 unfolding stepIn
-returns-2 c = let d = c .before .before .before in
+returns-2 c = let d = c .before in
     let a = d .before .args in
-    step-sum (now (a .keys)) (now (a .sets)) (rowsOf (now (a .rows)) (a .len)) _ _ _ (d .if1 .left) (ap (λ (x : Reduced). x .used) (c .before .reduce .ensures))
+    step-sum (now (a .keys)) (now (a .used)) _ _ _ (d .if1 .left)
 
 pub step-of-spec : {M : Type 1} → statement M
-step-of-spec =
-    tie.close
-    (tie.spec
-    cast-head
-    cast-rule
-    cast-first
-    second-source-requires
-    without-set-requires
-    returns
-    cast-reduce
-    mul-reduce
-    element-copy-out-reduce
-    reduce-requires
-    returns-2)
+step-of-spec = tie.close (tie.spec cast-head cast-rule cast-first second-source-requires without-set-requires returns cast-set mul-set element-copy-out-set returns-2)

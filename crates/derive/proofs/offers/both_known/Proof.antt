@@ -3,7 +3,7 @@ use mathlib.Core.Path.{ap, _∙_}
 use denote.Ref.{now}
 use Rattle.bitset.specs.Set.{member}
 use Rattle.bitset.specs.Words.{value}
-use Rattle.derive.specs.Inner.Search.{bothKnown}
+use Rattle.derive.specs.Inner.Offers.{bothKnown}
 use Rattle.derive.proofs.Laws.Gives.{part-known}
 use borrow.Author.Needs.{needs}
 use Rattle.derive.proofs.offers.both_known.Statement.{statement}

@@ -1,101 +1,65 @@
--- `derive::run::run` meets its contract. The loop's invariant: what is done, and the run that remains (`Along`).
+-- `derive::run::run` meets its contract. The loop's invariant: what is safe, what is done, and the run that remains (`Safe`, `Along`).
 use mathlib.Core.Path.{_≡_, sym, ap, _∙_, subst}
-use Prim.Native.Nat.{ℕ, _+_, _-_, _*_, _/_, _%_, _≤_, _<_}
+use mathlib.Core.Bool.{false}
+use mathlib.Core.List.{List, []}
+use Prim.Native.Nat.{ℕ, _+_, _-_, _*_, _≤_, _<_}
 use native.Mathlib.Nat.{le-trans, le-of-eq, lt-of-le-of-lt, lt-of-lt-of-le}
 use native.Mathlib.Omega.{arith}
 use mir.Syntax.{w64}
 use mir.Val.{Fits}
 use lib.ListN.{length, getD}
-use mathlib.Core.List.{[]}
 use borrow.Author.Needs.{needs}
 use denote.Ref.{now}
-use Rattle.bitset.specs.Set.{member}
 use Rattle.bitset.specs.Words.{value}
-use Rattle.derive.specs.Inner.Ran.{Ready}
-use Rattle.derive.specs.declared.run.Verdict.the-variants.{Derivable, Underivable, Exhausted}
-use Rattle.derive.proofs.Laws.Along.{Along, along-start, along-end, along-step}
-use Rattle.derive.proofs.Laws.Machine.{machine-derivable, machine-underivable, machine-exhausted}
-use Rattle.derive.proofs.Laws.Buffer.{written-length, part-room, part-back}
-use Rattle.derive.proofs.Laws.Search.{sheet-next, sheet-step, sheet-head, sheet-below}
+use Rattle.bitset.specs.Inner.{FourWords}
+use Rattle.deduction.specs.Setting.{switches}
+use Rattle.deduction.specs.Standard.{repAt}
+use Rattle.deduction.specs.Elimination.{Knowledge}
 use Rattle.dag.specs.Sheet.{countOf, goalOf}
 use Rattle.dag.specs.Record.{entryAt}
 use Rattle.dag.proofs.Laws.Good.{good}
-use Rattle.deduction.specs.Setting.{switches}
-use Rattle.deduction.specs.Standard.{repAt}
-use Rattle.deduction.specs.Run as theory
-use Rattle.knowledge.specs.Inner.State.{stateOf}
-use Rattle.derive.specs.Inner.Machine.{machine}
-use Rattle.derive.specs.Inner.Search.{searchLeast, stepIn}
+use Rattle.canonical.proofs.Laws.Record.{Bytes}
 use Rattle.derive.specs.Bytes.{stepBytes}
-use Rattle.knowledge.specs.Inner.Rows.{rowsOf, SameOutside, Remainders}
-use Rattle.knowledge.proofs.Laws.Learn.{ones-words}
+use Rattle.derive.specs.Inner.Step.{stepIn}
+use Rattle.derive.specs.Inner.Offers.{tableOffers}
+use Rattle.derive.specs.Inner.Ran.{LinesOf}
+use Rattle.derive.proofs.Laws.Along.{Safe, Along, along-start, along-derivable, along-underivable, along-exhausted, along-step}
+use Rattle.derive.proofs.Laws.Buffer.{part-room, part-back, part-length}
+use Rattle.derive.proofs.Laws.Kept.{sheet-start, sheet-users}
 use Rattle.derive.proofs.run.run.Statement.{statement}
 use Rattle.derive.proofs.run.run.Tie as tie
 
 abbrev Inv-loop : tie.InvT-loop
-Inv-loop s keys sets reps rows₀ len remainders₀ budget rules front out₀ n goal head have₀ used₀ made₀ rows remainders out have used made =
-    (n ≡ countOf s) × (head ≡ repAt (entryAt s) (goalOf s)) × Ready s keys sets reps have₀ rows₀ used₀ remainders₀ budget front out₀
-    × Along (switches rules) s have₀ rows₀ used₀ remainders₀ budget front out₀ have rows used remainders made out × (used ≤ 256)
+Inv-loop s keys reps remainders₀ used₀ columns₀ empty₀ budget rules front out₀ n goal goal-head users have₀ best₀ ready₀ made₀ remainders used columns empty out have best ready made =
+    Safe s keys reps budget front out₀ n goal-head users remainders used columns empty have made out
+    × ((k : Knowledge) → value have₀ ≡ k .known → LinesOf s reps (k .rows) remainders₀ used₀ columns₀ empty₀ → Along (switches rules) s reps k budget front out₀ remainders used columns empty have best ready made out)
 
 abbrev μ-loop : tie.MeasureT-loop
-μ-loop s keys sets reps rows₀ len remainders₀ budget rules front out₀ n goal head have₀ used₀ made₀ rows remainders out have used made =
+μ-loop s keys reps remainders₀ used₀ columns₀ empty₀ budget rules front out₀ n goal goal-head users have₀ best₀ ready₀ made₀ remainders used columns empty out have best ready made =
     budget - made
 
--- the buffer keeps its length, and has the place of the next step
-kept : (c : tie.At-loop Inv-loop μ-loop) → length (c .loop .out) ≡ length (now (c .before .before .before .before .before .before .args .out))
-kept c =
-    let a = c .loop .inv .3 in
-    let r = c .loop .inv .2 in
-    written-length (c .before .before .before .before .before .before .args .front) (now (c .before .before .before .before .before .before .args .out)) (a .done) (c .loop .made) (a .many) (omega (arith, r .space)) (c .loop .out) (a .bytes)
-    (omega (arith, r .space, a .within))
+-- the elements of the sheet are bytes
+elements : (c : tie.After-shared-slice-known Inv-loop μ-loop) → Bytes (now (c .before .args .s))
+elements c j = c .shared-slice-known .given j .fits
 
-space : (c : tie.At-loop Inv-loop μ-loop) → c .before .before .before .before .before .before .args .front + 40 * c .loop .made ≤ length (c .loop .out)
-space c = omega (arith, kept c, c .loop .inv .2 .space, c .loop .inv .3 .within)
-
--- the test whether the goal is known, and the number found, are the theory's
-tested : (c : tie.After-member Inv-loop μ-loop)
-    → theory.reached (entryAt (now (c .before .before .before .before .before .before .before .args .s))) (goalOf (now (c .before .before .before .before .before .before .before .args .s))) (stateOf (c .before .loop .have) (c .before .loop .rows) (c .before .loop .used)) ≡ c .member .result
-unfolding theory.reached
-tested c = ap (member (value (c .before .loop .have))) (sym (c .before .loop .inv .1)) ∙ sym (c .member .ensures)
-
-found : (c : tie.After-next Inv-loop μ-loop)
-    → c .next .result ≡ theory.nextNumber (switches (c .before .before .before .before .before .before .before .before .before .before .args .rules)) (entryAt (now (c .before .before .before .before .before .before .before .before .before .before .args .s))) (countOf (now (c .before .before .before .before .before .before .before .before .before .before .args .s))) (stateOf (c .before .before .before .before .loop .have) (c .before .before .before .before .loop .rows) (c .before .before .before .before .loop .used))
-found c =
-    let a = c .before .before .before .before in
-    let s = a .before .before .before .before .before .before in
-    c .next .ensures ∙ ap (searchLeast (switches (s .args .rules)) (value (a .loop .have)) (now (s .args .keys)) (now (s .args .reps)) (a .loop .remainders)) (a .loop .inv .0)
-    ∙ sheet-next (switches (s .args .rules)) (now (s .args .s)) (s .pre .good) (λ j. a .before .before .before .before .before .shared-slice-known .given j .fits) (now (s .args .keys)) (now (s .args .sets)) (now (s .args .reps)) (s .pre .right)
-    (a .loop .have) (a .loop .rows) (a .loop .used) (a .loop .remainders) (a .loop .inv .3 .cache)
-
-spent : (c : tie.Then3 Inv-loop μ-loop) → c .before .before .before .before .before .before .before .before .before .before .before .before .args .budget - c .before .before .before .before .before .before .loop .made ≡ 0
-spent c = omega (arith, c .if3 .taken)
-
-less : (c : tie.Else3 Inv-loop μ-loop) → c .before .before .before .before .before .before .loop .made < c .before .before .before .before .before .before .before .before .before .before .before .before .args .budget
-less c = omega (arith, c .if3 .left, c .before .before .before .before .before .before .loop .inv .3 .within)
-
-next-place : (c : tie.Else3 Inv-loop μ-loop)
-    → c .before .before .before .before .before .before .before .before .before .before .before .before .args .front + 40 * c .before .before .before .before .before .before .loop .made + 40 ≤ length (c .before .before .before .before .before .before .loop .out)
-next-place c =
-    let a = c .before .before .before .before .before .before in
-    omega (arith, less c, kept a, a .loop .inv .2 .space)
-
--- at most 256 rows, at the start and after a step
-rows-first : (c : tie.Start Inv-loop μ-loop) → c .args .len ≤ 256
-rows-first c = le-trans (c .pre .room) (ones-words (c .args .known) (search needs) (λ i. let f : Fits w64 (getD (c .args .known) i 0) = search needs in f .fits))
-
-rows-more : (c : tie.After-make Inv-loop μ-loop) → c .make .result .len ≤ 256
-rows-more c =
-    le-trans (c .make .ensures .1 .1 .0)
-    (ones-words (c .make .result .known) (search needs) (λ i. let f : Fits w64 (getD (c .make .result .known) i 0) = search needs in f .fits))
-
-few : (c : tie.At-loop Inv-loop μ-loop) → c .before .before .before .count .result ≤ 256
-few c =
-    let s = c .before .before .before .before .before .before in
-    le-trans (le-of-eq (c .loop .inv .0)) (good (now (s .args .s)) (c .loop .inv .2 .good) .few)
+few : (c : tie.After-count Inv-loop μ-loop) → c .count .result ≤ 256
+few c = let s = c .before .before .before in le-trans (le-of-eq (c .count .ensures)) (good (now (s .args .s)) (s .pre .good) .few)
 
 -- the goal is an entry's number
 goal-low : (c : tie.After-goal Inv-loop μ-loop) → c .goal .result < 256
 goal-low c = let s = c .before .before .before .before in lt-of-lt-of-le (lt-of-le-of-lt (le-of-eq (c .goal .ensures)) (good (now (s .args .s)) (s .pre .good) .goal)) (good (now (s .args .s)) (s .pre .good) .few)
+
+first-words : (c : tie.Start Inv-loop μ-loop) → FourWords (c .args .known)
+first-words c = record { four = search needs; below = λ i. let f : Fits w64 (getD (c .args .known) i 0) = search needs in f .fits }
+
+space : (c : tie.At-loop Inv-loop μ-loop) → c .before .before .before .before .before .before .before .before .before .before .before .before .args .front + 40 * c .loop .made ≤ length (c .loop .out)
+space c = let z = c .loop .inv .0 in omega (arith, z .long, z .space, z .within)
+
+less : (c : tie.Else3 Inv-loop μ-loop) → c .before .before .before .before .before .before .before .before .loop .made < c .before .before .before .before .before .before .before .before .before .before .before .before .before .before .before .before .before .before .before .before .args .budget
+less c = omega (arith, c .if3 .left, c .before .before .before .before .before .before .before .before .loop .inv .0 .within)
+
+next-place : (c : tie.Else3 Inv-loop μ-loop) → c .before .before .before .before .before .before .before .before .before .before .before .before .before .before .before .before .before .before .before .before .args .front + 40 * c .before .before .before .before .before .before .before .before .loop .made + 40 ≤ length (c .before .before .before .before .before .before .before .before .loop .out)
+next-place c = let z = c .before .before .before .before .before .before .before .before .loop .inv .0 in omega (arith, less c, z .long, z .space)
 
 count-requires : tie.Need-count-requires Inv-loop μ-loop
 count-requires c κs = search needs
@@ -109,105 +73,151 @@ goal-requires c κs = search needs
 cast-goal : tie.Need-cast-goal Inv-loop μ-loop
 cast-goal c = record { fits = goal-low c }
 
-cast-head : tie.Need-cast-head Inv-loop μ-loop
-cast-head c = search needs
+cast-goal-head : tie.Need-cast-goal-head Inv-loop μ-loop
+cast-goal-head c = search needs
 
-element-copy-out-head : tie.Need-element-copy-out-head Inv-loop μ-loop
-element-copy-out-head c = goal-low c
+element-copy-out-goal-head : tie.Need-element-copy-out-goal-head Inv-loop μ-loop
+element-copy-out-goal-head c = goal-low c
+
+fill-users-requires : tie.Need-fill-users-requires Inv-loop μ-loop
+fill-users-requires c κs = (search needs, few (c .before .before .before))
+
+all-offers-requires : tie.Need-all-offers-requires Inv-loop μ-loop
+all-offers-requires c κs = (first-words (c .before .before .before .before .before .before .before .before .before .before), few (c .before .before .before .before .before .before .before))
 
 loop-holds : tie.Need-loop-holds Inv-loop μ-loop
-loop-holds c = let s = c .before .before .before .before .before in (
-  c .before .before .count .ensures,
-  ap (λ (i : ℕ). getD (now (s .args .reps)) i 0) (c .before .goal .ensures) ∙ s .pre .right .rep (goalOf (now (s .args .s))) (good (now (s .args .s)) (s .pre .good) .goal),
-  s .pre,
-  along-start (switches (s .args .rules)) (now (s .args .s)) (now (s .args .keys)) (now (s .args .sets)) (now (s .args .reps)) (s .args .known) (now (s .args .rows)) (s .args .len) (now (s .args .remainders)) (s .args .budget) (s .args .front) (now (s .args .out)) (s .pre),
-  rows-first s,
-)
+loop-holds c = let s = c .before .before .before .before .before .before .before .before .before .before .before in
+    let g = c .before .before .before .before .before .before .before in
+    let f = c .before .before .before .before in
+    let sh = now (s .args .s) in
+    let keys = now (s .args .keys) in
+    let reps = now (s .args .reps) in
+    let on = switches (s .args .rules) in
+    let bytes = elements (c .before .before .before .before .before .before .before .before .before .before) in (
+      record {
+        good = s .pre .good;
+        right = s .pre .right;
+        limit = s .pre .limit;
+        space = s .pre .space;
+        count = g .before .count .ensures;
+        goal = ap (λ (i : ℕ). getD reps i 0) (g .goal .ensures) ∙ s .pre .right .rep (goalOf sh) (good sh (s .pre .good) .goal);
+        joined = sheet-users on sh (s .pre .good) bytes keys reps (s .pre .right) (g .before .count .ensures) (f .fill-users .ensures);
+        sizes = s .pre .sizes;
+        size = s .pre .size;
+        words = first-words s;
+        within = omega arith;
+        long = search needs;
+      },
+      λ k p l. along-start on sh reps k (s .args .budget) (s .args .front) (now (s .args .out)) p l
+          (sheet-start on sh (s .pre .good) bytes keys reps (s .pre .right) (value (s .args .known)) (g .before .count .ensures) (c .all-offers .ensures)),
+    )
 
-member-requires : tie.Need-member-requires Inv-loop μ-loop
-member-requires c κs = search needs
+holds-requires : tie.Need-holds-requires Inv-loop μ-loop
+holds-requires c κs = search needs
 
 end-as-requires : tie.Need-end-as-requires Inv-loop μ-loop
 end-as-requires c κs = search needs
 
 same-length : tie.Need-same-length Inv-loop μ-loop
-same-length c = kept (c .before .before .before)
+same-length c = c .before .before .before .before .loop .inv .0 .long
 
 returns : tie.Need-returns Inv-loop μ-loop
-returns c = along-end (c .before .before .before .loop .inv .3) Derivable (c .end-as .ensures) (machine-derivable (switches (c .before .before .before .before .before .before .before .before .before .args .rules)) (entryAt (now (c .before .before .before .before .before .before .before .before .before .args .s))) (countOf (now (c .before .before .before .before .before .before .before .before .before .args .s))) (goalOf (now (c .before .before .before .before .before .before .before .before .before .args .s))) (stateOf (c .before .before .before .loop .have) (c .before .before .before .loop .rows) (c .before .before .before .loop .used)) (c .before .before .before .before .before .before .before .before .before .args .budget - c .before .before .before .loop .made) (tested (c .before .before) ∙ c .before .if1 .taken))
+returns c = λ k p l. let h = c .before .before in
+    let a = h .before .before in
+    let z = a .loop .inv .0 in
+    along-derivable z (a .loop .inv .1 k p l) (elements (a .before .before .before .before .before .before .before .before .before .before .before)) (h .holds .ensures (z .words)) (c .before .if1 .taken) (c .end-as .ensures)
 
 next-requires : tie.Need-next-requires Inv-loop μ-loop
-next-requires c κs = few (c .before .before .before)
+next-requires c κs = search needs
 
 end-as-requires-2 : tie.Need-end-as-requires-2 Inv-loop μ-loop
 end-as-requires-2 c κs = search needs
 
 same-length-2 : tie.Need-same-length-2 Inv-loop μ-loop
-same-length-2 c = kept (c .before .before .before .before .before .before)
+same-length-2 c = c .before .before .before .before .before .before .before .before .loop .inv .0 .long
 
 returns-2 : tie.Need-returns-2 Inv-loop μ-loop
-returns-2 c = along-end (c .before .before .before .before .before .before .loop .inv .3) Underivable (c .end-as2 .ensures) (machine-underivable (switches (c .before .before .before .before .before .before .before .before .before .before .before .before .args .rules)) (entryAt (now (c .before .before .before .before .before .before .before .before .before .before .before .before .args .s))) (countOf (now (c .before .before .before .before .before .before .before .before .before .before .before .before .args .s))) (goalOf (now (c .before .before .before .before .before .before .before .before .before .before .before .before .args .s))) (stateOf (c .before .before .before .before .before .before .loop .have) (c .before .before .before .before .before .before .loop .rows) (c .before .before .before .before .before .before .loop .used)) (c .before .before .before .before .before .before .before .before .before .before .before .before .args .budget - c .before .before .before .before .before .before .loop .made) (tested (c .before .before .before .before .before) ∙ c .before .before .before .before .if1 .left) (sym (found (c .before .before)) ∙ c .before .if2 .taken))
+returns-2 c = λ k p l. let x = c .before .before in
+    let e = x .before .before .before in
+    let a = e .before .before .before in
+    let z = a .loop .inv .0 in
+    along-underivable z (a .loop .inv .1 k p l) (elements (a .before .before .before .before .before .before .before .before .before .before .before)) (e .before .holds .ensures (z .words)) (e .if1 .left) (x .next .ensures) (c .before .if2 .taken) (c .end-as2 .ensures)
 
 end-as-requires-3 : tie.Need-end-as-requires-3 Inv-loop μ-loop
 end-as-requires-3 c κs = search needs
 
 same-length-3 : tie.Need-same-length-3 Inv-loop μ-loop
-same-length-3 c = kept (c .before .before .before .before .before .before .before)
+same-length-3 c = c .before .before .before .before .before .before .before .before .before .loop .inv .0 .long
 
 returns-3 : tie.Need-returns-3 Inv-loop μ-loop
-returns-3 c = along-end (c .before .before .before .before .before .before .before .loop .inv .3) Exhausted (c .end-as3 .ensures) (ap (λ (b : ℕ). machine (switches (c .before .before .before .before .before .before .before .before .before .before .before .before .before .args .rules)) (entryAt (now (c .before .before .before .before .before .before .before .before .before .before .before .before .before .args .s))) (countOf (now (c .before .before .before .before .before .before .before .before .before .before .before .before .before .args .s))) (goalOf (now (c .before .before .before .before .before .before .before .before .before .before .before .before .before .args .s))) b (stateOf (c .before .before .before .before .before .before .before .loop .have) (c .before .before .before .before .before .before .before .loop .rows) (c .before .before .before .before .before .before .before .loop .used))) (spent (c .before)) ∙ machine-exhausted (switches (c .before .before .before .before .before .before .before .before .before .before .before .before .before .args .rules)) (entryAt (now (c .before .before .before .before .before .before .before .before .before .before .before .before .before .args .s))) (countOf (now (c .before .before .before .before .before .before .before .before .before .before .before .before .before .args .s))) (goalOf (now (c .before .before .before .before .before .before .before .before .before .before .before .before .before .args .s))) (stateOf (c .before .before .before .before .before .before .before .loop .have) (c .before .before .before .before .before .before .before .loop .rows) (c .before .before .before .before .before .before .before .loop .used)) (tested (c .before .before .before .before .before .before) ∙ c .before .before .before .before .before .if1 .left) (λ z. c .before .before .if2 .left (found (c .before .before .before) ∙ z)))
+returns-3 c = λ k p l. let x = c .before .before .before in
+    let e = x .before .before .before in
+    let a = e .before .before .before in
+    let z = a .loop .inv .0 in
+    along-exhausted z (a .loop .inv .1 k p l) (elements (a .before .before .before .before .before .before .before .before .before .before .before)) (e .before .holds .ensures (z .words)) (e .if1 .left) (x .next .ensures) (c .before .before .if2 .left) (c .before .if3 .taken) (c .end-as3 .ensures)
 
 cast-from : tie.Need-cast-from Inv-loop μ-loop
 cast-from c = search needs
 
 mul-from : tie.Need-mul-from Inv-loop μ-loop
-mul-from c = omega (arith, c .before .before .before .before .before .before .loop .inv .3 .within, c .before .before .before .before .before .before .loop .inv .2 .limit)
+mul-from c = omega (arith, c .before .before .before .before .before .before .before .before .loop .inv .0 .within, c .before .before .before .before .before .before .before .before .loop .inv .0 .limit)
 
 add-from : tie.Need-add-from Inv-loop μ-loop
-add-from c = omega (arith, c .before .before .before .before .before .before .loop .inv .3 .within, c .before .before .before .before .before .before .loop .inv .2 .limit)
+add-from c = let z = c .before .before .before .before .before .before .before .before .loop .inv .0 in omega (arith, z .within, z .space, c .before .before .before .before .before .before .before .before .before .before .before .before .before .before .before .before .before .before .before .before .good .1 .1 .1 .1 .1 .1 .1 .1 .1 .1 .1 .0 .0)
+
+cast-head : tie.Need-cast-head Inv-loop μ-loop
+cast-head c = search needs
 
 sub-make : tie.Need-sub-make Inv-loop μ-loop
-sub-make c = space (c .before .before .before .before .before .before .before .before)
+sub-make c = space (c .before .before .before .before .before .before .before .before .before .before .before .before)
 
 part-make-start : tie.Need-part-make-start Inv-loop μ-loop
-part-make-start c = space (c .before .before .before .before .before .before .before .before)
+part-make-start c = space (c .before .before .before .before .before .before .before .before .before .before .before .before)
 
 part-make-end : tie.Need-part-make-end Inv-loop μ-loop
 part-make-end c = search needs
 
 make-requires : tie.Need-make-requires Inv-loop μ-loop
-make-requires c κs = let a = c .before .before .before .before .before .before .before .before .before in
-    let s = c .before .before .before .before .before .before .before .before .before .before .before .before .before .before .before in
-    (a .loop .inv .3 .kept .size ∙ s .pre .words, a .loop .inv .3 .others .size ∙ s .pre .lines, few a, a .loop .inv .4, a .loop .inv .3 .room, part-room (a .loop .out) (s .args .front + 40 * a .loop .made) 40 (next-place (c .before .before .before)))
+make-requires c κs = let a = c .before .before .before .before .before .before .before .before .before .before .before .before .before in
+    let z = a .loop .inv .0 in
+    (z .sizes, z .size, part-room (a .loop .out) (a .before .before .before .before .before .before .before .before .before .before .before .before .args .front + 40 * a .loop .made) 40 (next-place (c .before .before .before .before .before)))
+
+learn-requires : tie.Need-learn-requires Inv-loop μ-loop
+learn-requires c κs = c .before .before .before .before .before .before .before .before .before .before .before .before .before .before .before .before .before .before .before .before .loop .inv .0 .words
 
 add-made : tie.Need-add-made Inv-loop μ-loop
-add-made c = omega (arith, c .before .before .before .before .before .before .before .before .before .before .before .before .before .loop .inv .3 .within, c .before .before .before .before .before .before .before .before .before .before .before .before .before .loop .inv .2 .limit)
+add-made c = omega (arith, c .before .before .before .before .before .before .before .before .before .before .before .before .before .before .before .before .before .before .before .before .before .loop .inv .0 .within, c .before .before .before .before .before .before .before .before .before .before .before .before .before .before .before .before .before .before .before .before .before .loop .inv .0 .limit)
 
 loop-less : tie.Need-loop-less Inv-loop μ-loop
-loop-less c = omega (arith, less (c .before .before .before .before .before .before .before))
+loop-less c = omega (arith, less (c .before .before .before .before .before .before .before .before .before .before .before .before .before))
 
 loop-again : tie.Need-loop-again Inv-loop μ-loop
-loop-again c = let a = c .before .before .before .before .before .before .before .before .before .before .before .before .before in
-    let s = c .before .before .before .before .before .before .before .before .before .before .before .before .before .before .before .before .before .before .before in
-    let x = c .before .before .before .before .before .before .before .before .before .next .result in
-    let m = c .before .before .before .make in
-    let k = stateOf (a .loop .have) (a .loop .rows) (a .loop .used) in
-    let f = found (c .before .before .before .before .before .before .before .before .before) in
-    let some = c .before .before .before .before .before .before .before .before .if2 .left in
-    let sh = now (s .args .s) in
-    let bytes : (j : ℕ) → getD sh j 0 < 256 = λ j. c .before .before .before .before .before .before .before .before .before .before .before .before .before .before .before .before .before .before .shared-slice-known .given j .fits in
-    let hd = sheet-head (switches (s .args .rules)) sh (s .pre .good) bytes (now (s .args .keys)) (now (s .args .sets)) (now (s .args .reps)) (s .pre .right) k x f some in (
-      c .before .before .before .before .before .before .before .before .before .before .before .before .before .before .before .before .count .ensures,
-      a .loop .inv .1,
-      s .pre,
-      along-step (a .loop .inv .3) (less (c .before .before .before .before .before .before .before)) (omega (arith, s .pre .space)) (tested (c .before .before .before .before .before .before .before .before .before .before .before .before) ∙ c .before .before .before .before .before .before .before .before .before .before .before .if1 .left) x f some
-          (stepIn (now (s .args .keys)) (now (s .args .sets)) (rowsOf (a .loop .rows) (a .loop .used)) x)
-          (sheet-step (switches (s .args .rules)) sh (s .pre .good) bytes (now (s .args .keys)) (now (s .args .sets)) (now (s .args .reps)) (s .pre .right) k x f some)
-          (x / 65536 % 256) (value (getD (now (s .args .sets)) (x / 65536 % 256) [])) hd (s .pre .right .set (x / 65536 % 256) (subst (λ (i : ℕ). i < countOf sh) (sym hd) (sheet-below (switches (s .args .rules)) sh (s .pre .good) bytes (now (s .args .keys)) (now (s .args .sets)) (now (s .args .reps)) (s .pre .right) k x f some)))
-          _ _ _ _ _ (m .ensures .1 .0) (part-back (a .loop .out) (s .args .front + 40 * a .loop .made) (stepBytes (stepIn (now (s .args .keys)) (now (s .args .sets)) (rowsOf (a .loop .rows) (a .loop .used)) x)) (m .last .1 .1 .1 .1 .1 .1 .1 .1 .0) (m .ensures .0)) (m .ensures .1 .1 .0) (m .ensures .1 .1 .1 .0)
-          (subst (λ (n : ℕ). (g : ℕ → ℕ) → Remainders g n (a .loop .rows) (a .loop .used) (a .loop .remainders) → Remainders g n (m .last .1 .1 .1 .1 .0) (m .result .len) (m .last .1 .1 .1 .1 .1 .1 .0)) (a .loop .inv .0) (m .ensures .1 .1 .1 .1 .0))
-          (subst (λ (n : ℕ). SameOutside 0 n (a .loop .remainders) (m .last .1 .1 .1 .1 .1 .1 .0)) (a .loop .inv .0) (m .ensures .1 .1 .1 .1 .1)),
-      rows-more (c .before .before .before),
+loop-again c = let m = c .before .before .before .before .before .before .before in
+    let n = m .before .before .before .before .before .before in
+    let x = n .before .before in
+    let e = x .before .before .before in
+    let a = e .before .before .before in
+    let s = a .before .before .before .before .before .before .before .before .before .before .before .before in
+    let z = a .loop .inv .0 in
+    let t = stepIn (now (s .args .keys)) (a .loop .used) (x .next .result) in
+    let from = s .args .front + 40 * a .loop .made in
+    let bytes = part-back (a .loop .out) from (stepBytes t) (m .make .last .1 .1 .1 .1 .1 .1 .1 .0) (m .make .ensures .0) in (
+      record {
+        good = z .good;
+        right = z .right;
+        limit = z .limit;
+        space = z .space;
+        count = z .count;
+        goal = z .goal;
+        joined = z .joined;
+        sizes = m .make .ensures .1 .0 .0;
+        size = m .make .ensures .1 .0 .1;
+        words = c .learn .ensures .0 .0;
+        within = omega (arith, less n);
+        long = ap length bytes ∙ part-length (a .loop .out) from t (next-place n) ∙ z .long;
+      },
+      λ k p l. along-step z (a .loop .inv .1 k p l) (elements (a .before .before .before .before .before .before .before .before .before .before .before)) (e .before .holds .ensures (z .words)) (e .if1 .left) (x .next .ensures) (n .before .if2 .left) (less n) bytes (m .make .ensures .1 .1)
+          (c .learn .ensures .0 .1) (c .learn .ensures .1),
     )
 
 pub run-spec : {M : Type 1} → statement M
@@ -220,10 +230,12 @@ run-spec =
     cast-n
     goal-requires
     cast-goal
-    cast-head
-    element-copy-out-head
+    cast-goal-head
+    element-copy-out-goal-head
+    fill-users-requires
+    all-offers-requires
     loop-holds
-    member-requires
+    holds-requires
     end-as-requires
     same-length
     returns
@@ -237,10 +249,12 @@ run-spec =
     cast-from
     mul-from
     add-from
+    cast-head
     sub-make
     part-make-start
     part-make-end
     make-requires
+    learn-requires
     add-made
     loop-less
     loop-again)
