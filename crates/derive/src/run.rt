@@ -128,7 +128,16 @@ pub fn run(
         }
         let from = front + 40 * (made as usize);
         let head = (x / 65536 % 256) as u8;
-        make(x, head, keys, remainders, used, columns, empty, &mut out[from..]);
+        make(
+            x,
+            head,
+            keys,
+            remainders,
+            used,
+            columns,
+            empty,
+            &mut out[from..],
+        );
         learn(&mut best, &mut ready, &mut have, rules, keys, &users, head);
         made += 1;
     }

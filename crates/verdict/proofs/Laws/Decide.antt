@@ -1,14 +1,15 @@
 -- From the run over the tables to the verdict on a sheet. Assumes nothing.
-use mathlib.Core.Path.{_≡_, sym, ap, ap₂, _∙_}
+use mathlib.Core.Path.{_≡_, refl, sym, ap, ap₂, _∙_}
 use mathlib.Core.Bool.{true, _&&_}
-use mathlib.Core.List.{List, _++_}
-use Prim.Native.Nat.{ℕ, _+_, _*_, _≤_, _<_}
+use mathlib.Core.List.{List, [], _∷_, _++_}
+use Prim.Native.Nat.{ℕ, zero, suc, _+_, _*_, _^_, _≤_, _<_}
 use native.Mathlib.Nat.{le-trans, le-of-eq}
 use native.Mathlib.Omega.{arith}
-use lib.ListN.{length, getD, take, drop, length-append}
+use lib.ListN.{length, getD, take, drop, replicate, length-append}
 use lib.Seq.{drop-at, length-take-le}
 use borrow.Author.Tests.{eq-eqb, lt-ltb}
-use Rattle.bitset.specs.Words.{value}
+use Rattle.bitset.specs.Words.{packed, value}
+use Rattle.bitset.specs.Inner.{FourWords}
 use Rattle.deduction.specs.Setting.{Setting}
 use Rattle.deduction.specs.Standard.{setAt, repAt}
 use Rattle.deduction.specs.Elimination.{Row, reduce}
@@ -17,7 +18,7 @@ use Rattle.deduction.specs.Run.{knowledge}
 use Rattle.deduction.proofs.Standard.{rep-le, rep-rep, rep-set}
 use Rattle.dag.specs.Sheet.{countOf, goalOf}
 use Rattle.dag.specs.Record.{entryAt}
-use Rattle.knowledge.specs.Inner.Lines.{lineAt, headIn}
+use Rattle.knowledge.specs.Inner.Lines.{setIn, lineAt, headIn}
 use Rattle.derive.specs.Bytes.{stepsBytes}
 use Rattle.derive.specs.Inner.Machine.{Ended, machine}
 use Rattle.derive.specs.Inner.Ran.{verdictOf, endOf, Ran}
@@ -27,6 +28,28 @@ use Rattle.verdict.specs.Buffer.{front}
 use Rattle.verdict.specs.Answer.{outcomeOf, missingAs, missingBy, missingOf, frontBytes, frontOf}
 use Rattle.start.specs.Start.{startHeads}
 use Rattle.verdict.specs.Inner.Decide.{reducedOf, Decided}
+
+-- the empty set, and a table of empty sets
+pub value-zero : value (0 ∷ 0 ∷ 0 ∷ 0 ∷ []) ≡ 0
+unfolding packed
+value-zero = refl
+
+pub table-zero : (n : ℕ) (x : List ℕ) → value x ≡ 0 → (i : ℕ) → setIn (replicate n x) i ≡ 0
+unfolding packed
+table-zero zero x z i = refl
+table-zero (suc n) x z zero = z
+table-zero (suc n) x z (suc i) = table-zero n x z i
+
+-- four words of zeros
+pub words-zero : FourWords (0 ∷ 0 ∷ 0 ∷ 0 ∷ [])
+words-zero = record { four = refl; below = below }
+  where
+    below : (i : ℕ) → getD (0 ∷ 0 ∷ 0 ∷ 0 ∷ []) i 0 < 2 ^ 64
+    below zero = omega arith
+    below (suc zero) = omega arith
+    below (suc (suc zero)) = omega arith
+    below (suc (suc (suc zero))) = omega arith
+    below (suc (suc (suc (suc i)))) = omega arith
 
 module _ (on : Setting) (s : List ℕ) (cut budget : ℕ) where
   ends : endOf on s budget (knowledge (entryAt s) (startHeads s cut)) ≡ asEnded (entryAt s) (outcomeOf on s cut budget)

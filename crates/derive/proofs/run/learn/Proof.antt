@@ -32,9 +32,11 @@ returns c = let o = c .before .before .before .before .before in
     let p = o .before .before .before .before in
     let s = p .before .before in
     let known = p .put .ensures (s .pre) in
-    let a = s .args in
-    (known, adds-as (ap (λ (g : ℕ). keyOffers (switches (a .rules)) g (getD (now (a .keys)) (a .head) 0) (a .head) ++ setOffers (switches (a .rules)) g (now (a .keys)) (value (getD (now (a .users)) (a .head) [])) 256) (known .1))
-    (adds-then (o .offers .ensures) (c .offers-of .ensures)))
+    let a = s .args in (
+      known,
+      adds-as (ap (λ (g : ℕ). keyOffers (switches (a .rules)) g (getD (now (a .keys)) (a .head) 0) (a .head) ++ setOffers (switches (a .rules)) g (now (a .keys)) (value (getD (now (a .users)) (a .head) [])) 256) (known .1))
+          (adds-then (o .offers .ensures) (c .offers-of .ensures)),
+    )
 
 pub learn-spec : {M : Type 1} → statement M
 learn-spec = tie.close (tie.spec put-requires offers-requires mul-offers-of element-copy-out-offers-of offers-of-requires returns)

@@ -55,10 +55,13 @@ add-to-column-requires : tie.Need-add-to-column-requires
 add-to-column-requires c κs = search needs
 
 returns : tie.Need-returns
-returns c = ((c .add-to-column .ensures .sizes, c .before .before .before .before .flip .ensures .size), λ live s rows l h. let a = c .before .before .before .before .before .before .before .before .before .before .before .before .before .before .args in
-    kept-learnt live s rows h (a .e) l (setIn (now (a .remainders)) (a .e)) (value (c .before .before .before .before .before .before .before .before .sum .result)) (setIn (now (a .columns)) (c .before .before .before .before .before .before .before .leading .result)) refl
-    (c .before .before .before .before .before .before .before .before .sum .ensures ∙ ap (bitXor (setIn (now (a .used)) (a .e))) (c .before .before .before .before .before .before .before .before .before .singleton .ensures)) (ap (setIn (now (a .columns))) (c .before .before .before .before .before .before .before .leading .ensures)) (sym (c .before .before .before .before .before .before .before .before .before .before .before .before .is-empty .ensures) ∙ not-true _ (c .before .before .before .before .before .before .before .before .before .before .before .if1 .taken))
-    (c .add-to-column .ensures) (c .before .before .before .before .flip .ensures))
+returns c = (
+  (c .add-to-column .ensures .sizes, c .before .before .before .before .flip .ensures .size),
+  λ live s rows l h. let a = c .before .before .before .before .before .before .before .before .before .before .before .before .before .before .args in
+      kept-learnt live s rows h (a .e) l (setIn (now (a .remainders)) (a .e)) (value (c .before .before .before .before .before .before .before .before .sum .result)) (setIn (now (a .columns)) (c .before .before .before .before .before .before .before .leading .result)) refl
+      (c .before .before .before .before .before .before .before .before .sum .ensures ∙ ap (bitXor (setIn (now (a .used)) (a .e))) (c .before .before .before .before .before .before .before .before .before .singleton .ensures)) (ap (setIn (now (a .columns))) (c .before .before .before .before .before .before .before .leading .ensures)) (sym (c .before .before .before .before .before .before .before .before .before .before .before .before .is-empty .ensures) ∙ not-true _ (c .before .before .before .before .before .before .before .before .before .before .before .if1 .taken))
+      (c .add-to-column .ensures) (c .before .before .before .before .flip .ensures),
+)
 
 returns-2 : tie.Need-returns-2
 returns-2 c = (c .before .before .before .pre, λ live s rows l h. kept-idle live s rows h (c .before .before .before .args .e) l (sym (c .before .is-empty .ensures) ∙ not-false _ (c .if1 .left)))
