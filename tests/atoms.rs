@@ -4,10 +4,10 @@
 #[allow(dead_code)] // each test uses a part
 mod cards;
 mod checks;
-mod plain;
 mod ran;
 #[allow(dead_code)]
 mod sheets;
+mod simple;
 mod tally;
 
 use cards::card_of;

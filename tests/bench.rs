@@ -7,7 +7,7 @@
 mod sheets;
 #[allow(dead_code)]
 mod kinds;
-mod plain;
+mod simple;
 use kinds::Parts;
 use sheets::{sheet, FRONT};
 use std::io::Write;
@@ -39,7 +39,7 @@ type Call = fn(&[u8], u32, u32, &mut [u8]) -> u32;
 // The answer, and the microseconds of the library, of plain Rust by value, of the verdict with every rule on by its switches, and of plain Rust lent.
 fn measure(s: &[u8], cut: u32) -> (u32, [f64; 4]) {
     // Each call of the library follows one of plain Rust, so that neither finds what the other left in the caches.
-    let calls: [Call; 4] = [library, plain::verdict_by_value, with_every_rule, plain::verdict];
+    let calls: [Call; 4] = [library, simple::verdict_by_value, with_every_rule, simple::verdict];
     let mut answers = [0; 4];
     let mut outs = [(); 4].map(|_| vec![0u8; FRONT + 40 * 256]);
     let mut times = [vec![], vec![], vec![], vec![]];

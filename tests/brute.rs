@@ -14,10 +14,10 @@ mod kinds;
 mod larger;
 mod locks;
 mod off;
-mod plain;
 #[allow(dead_code)]
 mod reading;
 mod records;
+mod simple;
 use calls::verdict;
 use failures::Failures;
 use larger::Larger;

@@ -1,8 +1,8 @@
-// Random good sheets with and without public atoms, key pairs and locks, and the card of a sheet by the plain verdict. Shared by the tests of the tool and
+// Random good sheets with and without public atoms, key pairs and locks, and the card of a sheet by the simple verdict. Shared by the tests of the tool and
 // by the brute-force test.
 
-use super::plain;
 use super::sheets::{random_entries, sheet, Entry, Random, FRONT};
+use super::simple;
 
 // One rung of the output buffer as a line of the card.
 pub fn rung_line(rung: &[u8]) -> String {
@@ -18,13 +18,13 @@ pub fn rung_line(rung: &[u8]) -> String {
     format!("rung {} {}{list}\n", number(0), words[rule])
 }
 
-// The card of a good sheet, by the plain verdict.
+// The card of a good sheet, by the simple verdict.
 pub fn card_of(sheet: &[u8]) -> String {
     let number = |at: usize| u32::from(u16::from_be_bytes([sheet[at], sheet[at + 1]]));
     let mut text = format!("goal {} heard {}\n", number(8), number(6));
     let mut buffer = vec![0; FRONT + 40 * 256];
     for cut in 0..=number(6) {
-        let answer = plain::verdict(sheet, cut, 256, &mut buffer);
+        let answer = simple::verdict(sheet, cut, 256, &mut buffer);
         if answer >= 2000 {
             let known: u32 = buffer[..32].iter().map(|byte| byte.count_ones()).sum();
             text += &format!("cut {cut} out of reach known {known}\n");

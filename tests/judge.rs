@@ -1,12 +1,11 @@
 // The tool's verdicts in names. Every example is judged both ways, by the program's card and by `sheet judge`, and the two agree once
-// names are numbers again; the same on random sheets by the plain verdict, which also has what is missing. A verdict that lies is told apart.
+// names are numbers again; the same on random sheets by the simple verdict, which also has what is missing. A verdict that lies is told apart.
 // The names on the hull label are told, and don't spoil which names are one term.
 // Arguments: the tool, the program, and the repository's folder.
 
 #[allow(dead_code)] // each test uses a part
-mod plain;
-#[allow(dead_code)]
 mod sheets;
+mod simple;
 mod tally;
 
 use sheets::{damage, random_entries, refusal, sheet, Entry, Random, FRONT};
@@ -274,7 +273,7 @@ fn example(c: &mut Tally, p: &Paths, path: &Path) {
     let said = from_card(&card).unwrap_or_default();
     c.check(&format!("{name} has a card"), !said.cuts.is_empty() && said.rungs.len() == said.cuts.last().map_or(0, |cut| if cut.1 { cut.2 } else { 0 }));
     let (cut, reached, _) = said.cuts.last().copied().unwrap_or((0, false, 0));
-    let Said { used, missing, .. } = plainly(&bytes, cut as u32);
+    let Said { used, missing, .. } = simply(&bytes, cut as u32);
     let said = Said { used, missing, ..said };
     let judged = run(&p.tool, &["judge", &name], b"");
     c.check(&format!("{name}, judged:\n{}the card:\n{card}", judged.out), agrees(&judged, &said, &asked));
@@ -299,10 +298,10 @@ fn examples(c: &mut Tally, p: &Paths) {
     sheets.iter().for_each(|path| example(c, p, path));
 }
 
-// One cut of a sheet by the plain verdict.
-fn plainly(bytes: &[u8], cut: u32) -> Said {
+// One cut of a sheet by the simple verdict.
+fn simply(bytes: &[u8], cut: u32) -> Said {
     let mut buffer = vec![0; FRONT + 40 * 256];
-    let answer = plain::verdict(bytes, cut, 256, &mut buffer);
+    let answer = simple::verdict(bytes, cut, 256, &mut buffer);
     let members = |set: &[u8]| (0..256).filter(|e| set[e / 8] >> (e % 8) & 1 == 1).collect::<Vec<usize>>();
     let sets: Vec<Vec<usize>> = buffer[..FRONT].chunks(32).map(members).collect();
     let (known, used, missing) = (sets[0].len(), sets[1].clone(), sets[2].clone());
@@ -331,14 +330,14 @@ fn is_public(entry: &Entry) -> bool {
     atom_number(entry).map_or(false, |number| number < 256)
 }
 
-// The head of each entry, by the plain verdict on a sheet whose atoms are over 255: the lowest entry that a listener who heard the one has
+// The head of each entry, by the simple verdict on a sheet whose atoms are over 255: the lowest entry that a listener who heard the one has
 // without a step.
 fn heads(entries: &[Entry]) -> Vec<usize> {
     let numbers: BTreeSet<u32> = entries.iter().filter_map(atom_number).collect();
     let place = |number: u32| numbers.range(..number).count() as u32;
     let raise = |entry: &Entry| atom_number(entry).map_or(entry.clone(), |number| Entry::Atom(5000 - place(number)));
     let raised: Vec<Entry> = entries.iter().map(raise).collect();
-    let same = |one: u16, other: u16| plain::verdict(&sheet(&raised, &[one], other), 1, 0, &mut [0; FRONT]) == 1000;
+    let same = |one: u16, other: u16| simple::verdict(&sheet(&raised, &[one], other), 1, 0, &mut [0; FRONT]) == 1000;
     (0..entries.len() as u16).map(|one| usize::from((0..=one).find(|other| same(one, *other)).unwrap_or(one))).collect()
 }
 
@@ -375,7 +374,7 @@ fn random_sheets(c: &mut Tally, p: &Paths) {
         let asked = Asked { names, heard, goal: format!("entry {goal}"), public: list, goal_public };
         for cut in 0..=asked.heard.len() {
             let judged = run(&p.tool, &["judge", "-", "--cut", &cut.to_string()], &bytes);
-            let said = plainly(&bytes, cut as u32);
+            let said = simply(&bytes, cut as u32);
             c.check(&format!("{entries:?} at cut {cut}:\n{}", judged.out), agrees(&judged, &said, &asked));
             let lines: Vec<&str> = judged.out.lines().filter(|line| line.contains(" is the same term as ")).collect();
             let wanted = same_lines(&entries, &heads, &asked.heard[..cut], goal, &said);

@@ -4,12 +4,12 @@
 #[allow(dead_code)] // each test uses a part
 mod cards;
 mod checks;
-mod plain;
 mod ran;
 #[allow(dead_code)]
 mod shapes;
 #[allow(dead_code)]
 mod sheets;
+mod simple;
 mod tally;
 
 use cards::card_of;
@@ -323,10 +323,10 @@ fn hurt(r: &mut Random, (entries, heard, goal): &(Vec<Entry>, Vec<u16>, u16)) ->
     sheet(&entries, heard, *goal)
 }
 
-// Used and missing entries with all messages heard, by the plain verdict; none where the goal is reached.
+// Used and missing entries with all messages heard, by the simple verdict; none where the goal is reached.
 fn lack_of(bytes: &[u8]) -> (Vec<usize>, Vec<usize>) {
     let mut buffer = vec![0; FRONT + 40 * 256];
-    plain::verdict(bytes, u32::from(bytes[6]) * 256 + u32::from(bytes[7]), 256, &mut buffer);
+    simple::verdict(bytes, u32::from(bytes[6]) * 256 + u32::from(bytes[7]), 256, &mut buffer);
     let members = |set: &[u8]| (0..256).filter(|e| set[e / 8] >> (e % 8) & 1 == 1).collect::<Vec<usize>>();
     (members(&buffer[32..64]), members(&buffer[64..96]))
 }

@@ -3,10 +3,10 @@
 // none. The tool's path is the first argument.
 
 mod cards;
-mod plain;
 mod shapes;
 #[allow(dead_code)] // each test uses a part
 mod sheets;
+mod simple;
 mod tally;
 
 #[path = "../tools/sheet/boxes.rs"]
@@ -193,10 +193,10 @@ fn sources(card: &str) -> usize {
     rungs.map(|line| line.split(' ').skip(3).collect::<BTreeSet<_>>().len()).sum()
 }
 
-// Used and missing entries where the goal is out of reach with all messages heard, by the plain verdict.
+// Used and missing entries where the goal is out of reach with all messages heard, by the simple verdict.
 fn lack_of(bytes: &[u8]) -> Option<card::Lack> {
     let mut buffer = vec![0; FRONT + 40 * 256];
-    let answer = plain::verdict(bytes, u32::from(bytes[6]) * 256 + u32::from(bytes[7]), 256, &mut buffer);
+    let answer = simple::verdict(bytes, u32::from(bytes[6]) * 256 + u32::from(bytes[7]), 256, &mut buffer);
     let members = |set: &[u8]| (0..256).filter(|e| set[e / 8] >> (e % 8) & 1 == 1).collect::<Vec<usize>>();
     let sets: Vec<Vec<usize>> = buffer[..FRONT].chunks(32).map(members).collect();
     (answer / 1000 == 2).then(|| card::Lack { used: sets[1].clone(), missing: sets[2].clone() })

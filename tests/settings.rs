@@ -16,13 +16,13 @@ mod kinds;
 mod larger;
 #[allow(dead_code)]
 mod off;
-mod plain;
 #[allow(dead_code)]
 mod reading;
 mod settings_larger;
 mod settings_refused;
 mod settings_small;
 mod settings_stated;
+mod simple;
 use calls::{limited, verdict};
 use failures::Failures;
 use reading::{judged, members, read, refused, replay, uses_only, Setting, Sheet, FULL};

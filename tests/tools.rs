@@ -2,10 +2,10 @@
 // The tool's path is the first argument. Most round trips run in this process, the rest through the tool.
 
 mod cards;
-mod plain;
 mod ran;
 #[allow(dead_code)] // each test uses a part
 mod sheets;
+mod simple;
 mod tally;
 
 #[allow(dead_code)]

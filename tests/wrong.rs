@@ -1,14 +1,14 @@
-// Libraries that are wrong on purpose, by the plain Rust verdict with a fault put in: the brute-force test has to fail on each of them, the test of the
+// Libraries that are wrong on purpose, by the simple verdict with a fault put in: the brute-force test has to fail on each of them, the test of the
 // refusals on those with a fault in the table, the test of the settings on those with a fault in the setting (wrong_settings.rs), the test of own atoms on those
 // that take an own atom for something on the sheet, the test of the limits on those with a fault in the quick call (wrong_quick.rs), and each has to pass on the
 // one without a fault. The environment variable FAULT chooses the fault.
 
 #[allow(dead_code)]
 mod sheets;
-mod plain;
+mod simple;
 mod wrong_quick;
 mod wrong_settings;
-use plain::{add, has, leading, single, Choices, Right, Set, State, Tables};
+use simple::{add, has, leading, single, Choices, Right, Set, State, Tables};
 use sheets::{bad_record, refusal, refusal_by, ATOM_LENGTHS, FRONT, LAST_KIND, LONGEST};
 use std::sync::OnceLock;
 
@@ -132,7 +132,7 @@ fn missing(t: &Tables, s: &State, goal: usize, answer: u32) -> [Set; 2] {
 fn with_shorter_buffer(s: &[u8], cut: u32, budget: u32, out: &mut [u8]) -> u32 {
     let mut longer = out.to_vec();
     longer.resize(out.len() + FRONT - 32, 0);
-    let answer = plain::verdict(s, cut, budget, &mut longer);
+    let answer = simple::verdict(s, cut, budget, &mut longer);
     out.copy_from_slice(&longer[..out.len()]);
     answer
 }
@@ -449,16 +449,16 @@ impl Choices for Wrong {
 // The verdict on a good sheet as a library with a faulty start, sum test or reader of atoms would take it.
 fn judged(s: &[u8], cut: u32, budget: u32, out: &mut [u8]) -> u32 {
     match fault() {
-        "one name too few" => plain::verdict(&renumbered(s, |a| if a == 255 { 30000 } else { a }), cut, budget, out),
-        "one name too many" => plain::verdict(&renumbered(s, |a| if a == 256 { 128 } else { a }), cut, budget, out),
-        "names not at cut 0" if cut == 0 => plain::verdict(&renumbered(s, hidden), cut, budget, out),
+        "one name too few" => simple::verdict(&renumbered(s, |a| if a == 255 { 30000 } else { a }), cut, budget, out),
+        "one name too many" => simple::verdict(&renumbered(s, |a| if a == 256 { 128 } else { a }), cut, budget, out),
+        "names not at cut 0" if cut == 0 => simple::verdict(&renumbered(s, hidden), cut, budget, out),
         "names after the messages" => {
             let late = heard_late(s, cut);
-            plain::verdict(&late, number(&late, 6).into(), budget, out)
+            simple::verdict(&late, number(&late, 6).into(), budget, out)
         }
         "refusal 10 still at 32" => with_shorter_buffer(s, cut, budget, out),
-        "the kind 16 bits above the number" => plain::verdict(&kind_over_16_bits(s), cut, budget, out),
-        _ => plain::verdict_by(&misread_halves(&misread(s)), cut, budget, out, &Wrong),
+        "the kind 16 bits above the number" => simple::verdict(&kind_over_16_bits(s), cut, budget, out),
+        _ => simple::verdict_by(&misread_halves(&misread(s)), cut, budget, out, &Wrong),
     }
 }
 
@@ -539,7 +539,7 @@ pub unsafe extern "C" fn zuwendryk_verdict(sheet: *const u8, sheet_len: usize, c
     let out = std::slice::from_raw_parts_mut(buffer, buffer_len);
     let before = out.to_vec();
     let answer = match fault() {
-        "the full verdict without unlock and lock" => plain::limited(s, cut, budget, 63, out),
+        "the full verdict without unlock and lock" => simple::limited(s, cut, budget, 63, out),
         "the limit of 64 on the full call too" => wrong_quick::with_limit(64, s, cut, budget, out),
         _ => verdict(s, cut, budget, out),
     };

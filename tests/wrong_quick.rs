@@ -1,14 +1,14 @@
-// Quick calls that are wrong on purpose, by the plain Rust verdict with a fault put in: the test of the limits has to fail on each.
+// Quick calls that are wrong on purpose, by the simple verdict with a fault put in: the test of the limits has to fail on each.
 
 use super::sheets::FRONT;
-use super::{fault, number, plain};
+use super::{fault, number, simple};
 
 // The call with this limit: refusal 9 for a budget over it, after 1 to 8 and 12 and ahead of 10.
 pub fn with_limit(limit: u32, s: &[u8], cut: u32, budget: u32, out: &mut [u8]) -> u32 {
-    match plain::verdict(s, cut, 0, &mut [0; FRONT]) {
+    match simple::verdict(s, cut, 0, &mut [0; FRONT]) {
         refused @ 1..=12 => refused,
         _ if budget > limit => 9,
-        _ => plain::verdict(s, cut, budget, out),
+        _ => simple::verdict(s, cut, budget, out),
     }
 }
 
@@ -48,12 +48,12 @@ fn one_fewer(s: &[u8], cut: u32, budget: u32, out: &mut [u8]) -> u32 {
 fn judged(s: &[u8], cut: u32, budget: u32, out: &mut [u8]) -> u32 {
     match fault() {
         "9 ahead of all other refusals" if budget > 64 => 9,
-        "9 ahead of 8" if budget > 64 && plain::verdict(s, 0, 0, &mut [0; FRONT]) >= 1000 => 9,
+        "9 ahead of 8" if budget > 64 && simple::verdict(s, 0, 0, &mut [0; FRONT]) >= 1000 => 9,
         "10 ahead of 9" if out.len() < FRONT + 40 * budget as usize && with_limit(64, s, cut, budget, &mut out.to_vec()) == 9 => 10,
         "8 for 9" if with_limit(64, s, cut, budget, &mut out.to_vec()) == 9 => 8,
         "room for 64 rungs whatever the budget" if out.len() < FRONT + 40 * 64 && with_limit(64, s, cut, budget, &mut out.to_vec()) >= 1000 => 10,
         "a rung fewer than the budget" => one_fewer(s, cut, budget, out),
-        "the quick call without unlock and lock" if with_limit(64, s, cut, budget, &mut out.to_vec()) >= 1000 => plain::limited(s, cut, budget, 63, out),
+        "the quick call without unlock and lock" if with_limit(64, s, cut, budget, &mut out.to_vec()) >= 1000 => simple::limited(s, cut, budget, 63, out),
         "the quick call at the whole log" if with_limit(64, s, cut, budget, &mut out.to_vec()) >= 1000 => with_limit(64, s, number(s, 6).into(), budget, out),
         _ => with_limit(limit(s), s, cut, budget_of(budget), out),
     }

@@ -1,8 +1,8 @@
-// Request E11 in the libraries that are wrong on purpose: the verdict with a setting, by the plain Rust verdict with a fault in what it makes of the setting.
+// Request E11 in the libraries that are wrong on purpose: the verdict with a setting, by the simple verdict with a fault in what it makes of the setting.
 
 use super::fault;
-use super::plain::{self, has, single, Choices, Limited, Right, Set, State, Tables, NO_STEP};
 use super::sheets::FRONT;
+use super::simple::{self, has, single, Choices, Limited, Right, Set, State, Tables, NO_STEP};
 
 const LEFT: u8 = 1;
 const RIGHT: u8 = 2;
@@ -225,7 +225,7 @@ fn rule_of(rung: &[u8]) -> u32 {
 // The full verdict, and of its rungs those by rules that are switched on.
 fn left_out(s: &[u8], cut: u32, budget: u32, rules: u8, out: &mut [u8]) -> u32 {
     let before = out.to_vec();
-    let answer = plain::verdict(s, cut, budget, out);
+    let answer = simple::verdict(s, cut, budget, out);
     if answer < 1000 {
         return answer;
     }
@@ -239,11 +239,11 @@ fn left_out(s: &[u8], cut: u32, budget: u32, rules: u8, out: &mut [u8]) -> u32 {
 // Out of reach without a rung wherever the full verdict's ladder has one by a rule that is switched off.
 fn all_or_nothing(s: &[u8], cut: u32, budget: u32, rules: u8, out: &mut [u8]) -> u32 {
     let mut full = out.to_vec();
-    let answer = plain::verdict(s, cut, budget, &mut full);
+    let answer = simple::verdict(s, cut, budget, &mut full);
     if answer >= 1000 && full[FRONT..].chunks(40).take(made(answer)).any(|rung| !Limited(rules).on(rule_of(rung))) {
-        return plain::limited(s, cut, budget, 0, out);
+        return simple::limited(s, cut, budget, 0, out);
     }
-    plain::limited(s, cut, budget, rules, out)
+    simple::limited(s, cut, budget, rules, out)
 }
 
 fn judged(s: &[u8], cut: u32, budget: u32, rules: u8, out: &mut [u8]) -> u32 {
@@ -251,10 +251,10 @@ fn judged(s: &[u8], cut: u32, budget: u32, rules: u8, out: &mut [u8]) -> u32 {
     match fault() {
         "the full ladder with rungs left out" => left_out(s, cut, budget, rules, out),
         "out of reach where the full ladder needs a rule that is off" => all_or_nothing(s, cut, budget, rules, out),
-        "a cut past the log let through" if plain::limited(s, cut, budget, rules, out) == 8 => plain::limited(s, 0, budget, rules, out),
-        "budget 257 let through" if budget == 257 => plain::verdict_by(s, cut, 256, out, &wrong),
-        "refusal 10 below 256 rungs" if out.len() < FRONT + 40 * 256 && plain::limited(s, cut, 0, rules, &mut out.to_vec()) >= 1000 => 10,
-        _ => plain::verdict_by(s, cut, budget, out, &wrong),
+        "a cut past the log let through" if simple::limited(s, cut, budget, rules, out) == 8 => simple::limited(s, 0, budget, rules, out),
+        "budget 257 let through" if budget == 257 => simple::verdict_by(s, cut, 256, out, &wrong),
+        "refusal 10 below 256 rungs" if out.len() < FRONT + 40 * 256 && simple::limited(s, cut, 0, rules, &mut out.to_vec()) >= 1000 => 10,
+        _ => simple::verdict_by(s, cut, budget, out, &wrong),
     }
 }
 

@@ -1,7 +1,7 @@
-// The verdict in plain Rust, by the library's algorithm: tables of keys, sets, representatives and openers, a basis with kept remainders, and a least
-// number over all steps that follow. For the benchmark; the tests compare it with the library too. A term is heard in one of two forms:
-// the state is lent, or it is taken by value and handed back, as the library does. `Choices` are the places in which a library that is wrong on
-// purpose differs; the right one makes none of its own.
+// The verdict in plain Rust as one writes it first: tables of keys, sets, representatives and openers, each found by going through the entries, a basis with
+// kept remainders, and a least number over all steps that follow, gone through anew for each step. The tests compare the library with it, and the
+// benchmark measures it. A term is heard in one of two forms: the state is lent, or it is taken by value and handed back. `Choices` are the places in which
+// the libraries that are wrong on purpose choose otherwise; the right one makes none of its own.
 
 #![allow(dead_code)] // the tests use one form, the benchmark both
 
