@@ -1,9 +1,11 @@
 // The verdict, by brute force: the whole answer and buffer recomputed from the documents' text (reading.rs) and compared with the library, the rungs
 // replayed, and on the smallest sheets the claim "out of reach" tried against everything that can be made off the sheet up to a size. On larger sheets,
-// where sums can't be tried one by one, what the text says of verdict, used set and remainder is checked of the library's bytes.
+// where sums can't be tried one by one, what the text says of verdict, used set and remainder is checked of the library's bytes, and they are compared with
+// those of two other verdicts in Rust (beside.rs).
 
 #[allow(dead_code)] // each test uses a part
 mod sheets;
+mod beside;
 #[allow(dead_code)]
 mod calls;
 #[allow(dead_code)]
@@ -14,6 +16,7 @@ mod kinds;
 mod larger;
 mod locks;
 mod off;
+mod plain;
 #[allow(dead_code)]
 mod reading;
 mod records;
@@ -532,6 +535,7 @@ fn main() {
     larger_sheets(&mut t);
     records::random_sheets(&mut t, &mut r);
     locks::random_sheets(&mut t, &mut r);
+    beside::sheets(&mut t);
     let pairs = every_pair(&mut t, &mut r);
     let (tried, failed) = off::tried(&mut r);
     println!("brute force: {} calls, {} reached, {} out of reach, {} of them with a used set, {} stopped, {} refused", t.calls, t.reached, t.out, t.used, t.stopped, t.refused);

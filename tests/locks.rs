@@ -6,7 +6,7 @@ use super::kinds::{self, Parts};
 use super::reading::{read, replay, set_bytes};
 use super::records::same_everywhere;
 use super::sheets::{lock_entries, sheet, Entry, Random, FRONT};
-use super::{larger_sheet, simple, verdict, Tally, ROOM};
+use super::{larger_sheet, verdict, Tally, ROOM};
 use Entry::*;
 
 // The call at the whole list and budget 256: its number, and its rungs without the word rung. The bytes are compared with the reading's there, at each
@@ -408,25 +408,6 @@ fn other_halves(t: &mut Tally, r: &mut Random) {
     }
 }
 
-// Larger sheets with locks, on which the reading can't try sums one by one: answer and bytes are those of the simple verdict.
-fn beside_simple(t: &mut Tally) {
-    for seed in 0..300 {
-        let (entries, heard, goal) = kinds::locked(20 + (seed as usize * 31) % 237, seed);
-        let s = sheet(&entries, &heard, goal);
-        for cut in [0, heard.len() / 3, heard.len()] {
-            for budget in [0, 5, 256] {
-                let mut outs = [(); 2].map(|_| vec![0xa5; FRONT + 40 * budget]);
-                let [ours, other] = &mut outs;
-                let answers = [verdict(&s, cut as u32, budget as u32, ours), simple::verdict(&s, cut as u32, budget as u32, other)];
-                t.calls += 1;
-                if answers[0] != answers[1] || ours != other {
-                    t.failures.add(&format!("{entries:?} heard {heard:?} goal {goal} cut {cut} budget {budget}: {answers:?}"));
-                }
-            }
-        }
-    }
-}
-
 // What is stated case by case.
 pub fn stated_cases(t: &mut Tally) {
     both_rules(t);
@@ -450,5 +431,4 @@ pub fn random_sheets(t: &mut Tally, r: &mut Random) {
         t.every_cut("locks", &sheet(&entries, &heard, goal), r);
     }
     other_halves(t, r);
-    beside_simple(t);
 }

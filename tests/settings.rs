@@ -16,6 +16,7 @@ mod kinds;
 mod larger;
 #[allow(dead_code)]
 mod off;
+mod plain;
 #[allow(dead_code)]
 mod reading;
 mod settings_larger;

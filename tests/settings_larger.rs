@@ -1,5 +1,5 @@
-// Larger sheets, up to 256 entries, in settings at random: beside the simple verdict, whose bytes are all compared, and by what the documents say of a call's
-// rungs (eliminated.rs) and sets (larger.rs). Switches are turned on one after the other.
+// Larger sheets, up to 256 entries, in settings at random: beside the simple verdict and the plain one, whose bytes are all compared, and by what the
+// documents say of a call's rungs (eliminated.rs) and sets (larger.rs). Switches are turned on one after the other.
 
 use super::cards::large;
 use super::kinds;
@@ -7,26 +7,28 @@ use super::larger::Larger;
 use super::eliminated::Eliminated;
 use super::reading::{members, read, rung_bytes, Setting};
 use super::sheets::{full_sheet, sheet, Entry, Random, FRONT};
-use super::simple;
-use super::{limited, verdict, Called, Tally, SUM};
+use super::{limited, plain, simple, verdict, Called, Tally, SUM};
 
-// A call of the library and of the simple verdict: answer and bytes are the same, and with every rule on those of the full verdict.
-fn beside_simple(t: &mut Tally, s: &[u8], rules: u8, cut: usize, budget: usize) -> Called {
-    let mut outs = [(); 2].map(|_| t.pattern[..FRONT + 40 * budget + 7].to_vec());
-    let [ours, other] = &mut outs;
-    let answers = [limited(s, cut as u32, budget as u32, rules, ours), simple::limited(s, cut as u32, budget as u32, rules, other)];
+// A call of the library, of the simple verdict and of the plain one: answer and bytes are the same, and with every rule on those of the full verdict.
+fn beside_others(t: &mut Tally, s: &[u8], rules: u8, cut: usize, budget: usize) -> Called {
+    let [(answer, buffer), others @ ..] = [limited, simple::limited, plain::limited].map(|call| {
+        let mut out = t.pattern[..FRONT + 40 * budget + 7].to_vec();
+        (call(s, cut as u32, budget as u32, rules, &mut out), out)
+    });
     t.calls += 1;
-    if answers[0] != answers[1] || ours != other {
-        t.failures.add(&format!("setting {rules} cut {cut} budget {budget}: {answers:?}, same bytes: {}; sheet {s:?}", ours == other));
+    for (other, out) in &others {
+        if *other != answer || *out != buffer {
+            t.failures.add(&format!("setting {rules} cut {cut} budget {budget}: {answer} and {other}, same bytes: {}; sheet {s:?}", *out == buffer));
+        }
     }
     if rules == 255 {
         t.full += 1;
-        if verdict(s, cut as u32, budget as u32, other) != answers[0] || ours != other {
-            t.failures.add(&format!("cut {cut} budget {budget}: {answers:?}, and the full verdict differs; sheet {s:?}"));
+        let mut out = t.pattern[..buffer.len()].to_vec();
+        if verdict(s, cut as u32, budget as u32, &mut out) != answer || out != buffer {
+            t.failures.add(&format!("cut {cut} budget {budget}: {answer}, and the full verdict differs; sheet {s:?}"));
         }
     }
-    let [buffer, _] = outs;
-    let called = Called { rules, cut: cut as u32, budget: budget as u32, answer: answers[0], buffer };
+    let called = Called { rules, cut: cut as u32, budget: budget as u32, answer, buffer };
     t.counted(&called);
     t.larger[(called.answer / 1000).min(3) as usize] += 1;
     called.rungs().chunks(40).for_each(|rung| t.larger_rules[usize::from(rung[3]).min(8)] += 1);
@@ -47,7 +49,7 @@ fn judged(t: &mut Tally, s: &[u8], heard: usize, r: &mut Random) {
     for cut in [0, heard / 2, heard] {
         for budget in [r.below(9) as usize, 256, 256] {
             let rules = any_setting(r);
-            let Called { answer, buffer, .. } = beside_simple(t, s, rules, cut, budget);
+            let Called { answer, buffer, .. } = beside_others(t, s, rules, cut, budget);
             let setting = Setting(rules);
             let (number, rungs) = eliminated.judged(setting, cut, budget);
             let after = [rungs.iter().flat_map(rung_bytes).collect(), t.pattern[FRONT + 40 * rungs.len()..buffer.len()].to_vec()].concat();
@@ -63,10 +65,10 @@ fn judged(t: &mut Tally, s: &[u8], heard: usize, r: &mut Random) {
 
 // The switches turned on one after the other, in an order at random: reached stays reached, and where the goal stays out of reach nothing gained is lost.
 fn turned_on(t: &mut Tally, s: &[u8], heard: usize, r: &mut Random) {
-    let (mut rules, mut before) = (0, beside_simple(t, s, 0, heard, 256));
+    let (mut rules, mut before) = (0, beside_others(t, s, 0, heard, 256));
     while rules != 255 {
         rules |= 1 << r.below(8);
-        let now = beside_simple(t, s, rules, heard, 256);
+        let now = beside_others(t, s, rules, heard, 256);
         let lost = (0..32).any(|k| before.buffer[k] & !now.buffer[k] != 0);
         t.pairs += 1;
         if now.answer / 1000 == 2 && (before.answer / 1000 != 2 || lost) {
@@ -83,14 +85,14 @@ fn every_setting(t: &mut Tally) {
     for kind in single.into_iter().chain([kinds::mixed, kinds::random, kinds::names, kinds::serials]) {
         let (entries, heard, goal) = kind(40);
         let s = sheet(&entries, &heard, goal);
-        (0..=255).for_each(|rules| drop(beside_simple(t, &s, rules, heard.len(), 256)));
+        (0..=255).for_each(|rules| drop(beside_others(t, &s, rules, heard.len(), 256)));
     }
     let s = full_sheet(Entry::Long(65536 + 1001), [254, 253], 255);
     for rules in 0..=255u8 {
         // the first message is entry 0's term, the second is zero
         let want = [if rules & SUM != 0 { 1001 } else { 2000 }, 1000];
         for cut in [1, 2] {
-            let answer = beside_simple(t, &s, rules, cut as usize, 256).answer;
+            let answer = beside_others(t, &s, rules, cut as usize, 256).answer;
             if answer != want[cut as usize - 1] {
                 t.failures.add(&format!("the longest sheet, setting {rules} cut {cut}: {answer}, wanted {want:?}"));
             }
