@@ -8,7 +8,9 @@ pub type Parts = (Vec<Entry>, Vec<u16>, u16);
 
 // The kinds that the benchmarks go through. `serials` is `names` with every atom in the long record of request E10. `locks` and `openers` have the key pairs
 // of request E6: `locks` is the work of `seals` by rule 7, and in `openers` the half that opens a lock is to be found above it.
-pub const BY_NAME: [(&str, fn(usize) -> Parts); 10] = [
+// The last three are the worst for one table each: `users` for that of the users of each entry, `bucket` for that in which equal keys are found, `sweeps` for
+// what is left of each entry and the columns over it.
+pub const BY_NAME: [(&str, fn(usize) -> Parts); 13] = [
     ("joins", joins),
     ("sums", sums),
     ("seals", seals),
@@ -19,6 +21,9 @@ pub const BY_NAME: [(&str, fn(usize) -> Parts); 10] = [
     ("serials", serials),
     ("locks", locks),
     ("openers", openers),
+    ("users", users),
+    ("bucket", bucket),
+    ("sweeps", sweeps),
 ];
 
 // The atom with this number and 1,000.
@@ -117,6 +122,27 @@ pub fn serials(n: usize) -> Parts {
         _ => e,
     };
     (entries.into_iter().map(long).collect(), heard, goal)
+}
+
+// All other entries are users of the first: pairs with it, each of the entry before. The second is heard, so that the first step gains the first entry and
+// looks at every user, and each later step makes a pair.
+pub fn users(n: usize) -> Parts {
+    let entries = (0..n as u16).map(|i| if i == 0 { atom(0) } else { Entry::Pair(i - 1, 0) }).collect();
+    (entries, vec![1], n as u16 - 1)
+}
+
+// Atoms whose keys leave the same remainder by 251, and thus fall into one of 251 buckets. Nothing is heard, so that reading the entries is all the work.
+pub fn bucket(n: usize) -> Parts {
+    ((0..n as u16).map(|i| atom(251 * i)).collect(), vec![], 0)
+}
+
+// Half atoms, and sums of the highest of them with each other one but the lowest, all heard from above. Every new row is the sum of two neighbours, and its
+// leading entry is in what is left of each sum not yet heard and of each atom from it upwards. In the end all atoms but the lowest two lack entry 1.
+pub fn sweeps(n: usize) -> Parts {
+    let (top, all) = (n as u16 / 2, n as u16);
+    let mut entries: Vec<Entry> = (0..=top).map(atom).collect();
+    entries.extend((1..all - top).rev().map(|i| Entry::Sum(vec![top, i])));
+    (entries, (top + 1..all).collect(), top)
 }
 
 // Entries of every kind drawn at random, half as many messages as entries, and a goal that is none of them.

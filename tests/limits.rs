@@ -168,7 +168,7 @@ fn larger_sheets(t: &mut Tally, r: &mut Random) {
     let drawn = [kinds::drawn, kinds::labelled, kinds::locked, kinds::lacking];
     for i in 0..1200u64 {
         let n = 16 + 8 * r.below(31) as usize;
-        let parts = if i % 2 == 0 { drawn[(i / 2 % 4) as usize](n, i) } else { (kinds::BY_NAME[(i / 2 % 10) as usize].1)(n) };
+        let parts = if i % 2 == 0 { drawn[(i / 2 % 4) as usize](n, i) } else { (kinds::BY_NAME[i as usize / 2 % kinds::BY_NAME.len()].1)(n) };
         let s = sheet(&parts.0, &parts.1, parts.2);
         let last = parts.1.len() as u64;
         for cut in [last, last / 2, r.below(last + 2)] {

@@ -81,8 +81,7 @@ fn turned_on(t: &mut Tally, s: &[u8], heard: usize, r: &mut Random) {
 
 // Every setting on the sheets of the benchmark, and on the longest one.
 fn every_setting(t: &mut Tally) {
-    let single = [kinds::joins, kinds::sums, kinds::seals, kinds::stuck, kinds::locks, kinds::openers];
-    for kind in single.into_iter().chain([kinds::mixed, kinds::random, kinds::names, kinds::serials]) {
+    for (_, kind) in kinds::BY_NAME {
         let (entries, heard, goal) = kind(40);
         let s = sheet(&entries, &heard, goal);
         (0..=255).for_each(|rules| drop(beside_others(t, &s, rules, heard.len(), 256)));
