@@ -149,8 +149,7 @@ fn answers(t: &mut Tally) {
         let n = 8 + r.below(249) as usize;
         t.all(made([kinds::drawn, kinds::labelled, kinds::lacking, kinds::locked][seed as usize % 4](n, seed)), &mut r);
     }
-    let kinds = [kinds::joins, kinds::sums, kinds::seals, kinds::mixed, kinds::stuck, kinds::names, kinds::serials, kinds::longest];
-    for kind in kinds.into_iter().chain([kinds::locks, kinds::openers]) {
+    for kind in kinds::BY_NAME.into_iter().map(|(_, kind)| kind).chain([kinds::longest as fn(usize) -> Parts]) {
         for n in (32..=256).step_by(2) {
             t.all(made(kind(n)), &mut r);
         }
@@ -164,7 +163,7 @@ fn answers(t: &mut Tally) {
 
 // ---- time
 
-// A row of the benchmark: kind and size of the sheet, the library's microseconds, and their ratio to those of plain Rust in the same run.
+// A row of the benchmark: kind and size of the sheet, the library's microseconds, and their ratio to those of the simple verdict by value in the same run.
 struct Row {
     sheet: String,
     time: f64,
@@ -174,8 +173,8 @@ struct Row {
 fn row(line: &str) -> Option<Row> {
     let words: Vec<&str> = line.split_whitespace().collect();
     let number = |i: usize| words.get(i)?.parse::<f64>().ok();
-    let (n, time, plain) = (number(1)?, number(2)?, number(3)?);
-    Some(Row { sheet: format!("{:8} {n:4}", words[0]), time, ratio: time / plain })
+    let (n, time, simple) = (words.get(1)?.parse::<usize>().ok()?, number(2)?, number(3)?);
+    Some(Row { sheet: format!("{:8} {n:4}", words[0]), time, ratio: time / simple })
 }
 
 fn run(bench: &str) -> Vec<Row> {
@@ -190,15 +189,16 @@ fn sorted(values: impl Iterator<Item = f64>) -> Vec<f64> {
     all
 }
 
-// The benchmarks of both revisions, ten runs each, in turn. The machine's speed may change between two runs; the ratio to plain Rust, whose
-// calls are made in turn with the library's, then changes less than the time. Each revision's plain Rust does what its library does.
+// The benchmarks of both revisions, ten runs each, in turn. The machine's speed may change between two runs; the ratio to the simple verdict by value, whose
+// calls are made in turn with the library's, then changes less than the time. A revision that has no tests/simple.rs has that verdict in tests/plain.rs, and
+// its benchmark prints it in the same place.
 fn times(benches: &[String]) {
     let mut runs: [Vec<Vec<Row>>; 2] = [vec![], vec![]];
     for k in 0..20 {
         let i = (k + k / 2) % 2;
         runs[i].push(run(&benches[i]));
     }
-    println!("                 least us         to plain Rust of the same run: least, middle, most of ten");
+    println!("                 least us         to the simple verdict of the same run: least, middle, most of ten");
     println!("sheet       n       now   earlier   now                    earlier");
     let in_both = |row: &&Row| runs[1][0].iter().any(|other| other.sheet == row.sheet);
     for Row { sheet, .. } in runs[0][0].iter().filter(in_both) {

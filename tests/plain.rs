@@ -4,7 +4,7 @@
 // column, the heads whose lines have it: a row that a rung adds is taken off the lines in one column alone. What a new term offers is found by its users.
 // A message is heard in one of two forms: the state is lent, or it is taken by value and handed back, as document 01 asks.
 
-#![allow(dead_code)] // the tests use two calls, the benchmark two
+#![allow(dead_code)] // each test uses a part
 
 use super::sheets::{FRONT, LONGEST};
 

@@ -3,7 +3,7 @@
 // benchmark measures it. A term is heard in one of two forms: the state is lent, or it is taken by value and handed back. `Choices` are the places in which
 // the libraries that are wrong on purpose choose otherwise; the right one makes none of its own.
 
-#![allow(dead_code)] // the tests use one form, the benchmark both
+#![allow(dead_code)] // the tests use one form, the benchmark the other
 
 use super::sheets::FRONT;
 
