@@ -366,7 +366,7 @@ fn every_entry(t: &mut Tally) {
 // ---- sheets at random
 
 // A sheet with locks, and any entry for the key of some of them: refused with 12, unless it is a half by chance, and 6 where it is forward.
-fn any_key(r: &mut Random) -> Parts {
+pub fn any_key(r: &mut Random) -> Parts {
     let (mut entries, heard, goal) = lock_entries(r);
     for (i, e) in entries.iter_mut().enumerate() {
         let forward = u64::from(r.below(8) == 0);

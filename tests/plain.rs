@@ -131,7 +131,7 @@ impl Terms {
         Terms { keys: [0; 256], heads: [0; 256], lines, last: [0; BUCKETS], before: [0; 256], all: EMPTY, public: EMPTY, made: EMPTY }
     }
 
-    // The head in this number's bucket that passes; there is at most one. In a full bucket it is faster to go through the entries up to a given one.
+    // The head in this number's bucket that passes; there is at most one. After eight others it is faster to go through the entries, up to a given one.
     fn find(&self, number: u64, up_to: u8, passes: impl Fn(u8) -> bool) -> Option<u8> {
         let mut place = self.last[(number % BUCKETS as u64) as usize];
         for _ in 0..8 {
@@ -228,7 +228,7 @@ impl Terms {
 struct State {
     known: Set,
     pivots: Set, // the leading entries
-    tails: Set,  // of all other entries a row has these at most
+    tails: Set,  // the other entries that a row may have
     rows: [Set; 256],
 }
 
