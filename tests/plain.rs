@@ -131,22 +131,22 @@ impl Terms {
         Terms { keys: [0; 256], heads: [0; 256], lines, last: [0; BUCKETS], before: [0; 256], all: EMPTY, public: EMPTY, made: EMPTY }
     }
 
-    // The head in this number's bucket that passes; there is at most one. After eight others it is faster to go through the entries, up to a given one.
-    fn find(&self, number: u64, up_to: u8, passes: impl Fn(u8) -> bool) -> Option<u8> {
+    // The head in this number's bucket that passes; there is at most one. After four others it is faster to go through all entries below a given one.
+    fn find(&self, number: u64, below: usize, passes: impl Fn(usize) -> bool) -> Option<u8> {
         let mut place = self.last[(number % BUCKETS as u64) as usize];
-        for _ in 0..8 {
+        for _ in 0..4 {
             let e = place.checked_sub(1)? as u8;
-            if passes(e) {
+            if passes(e.into()) {
                 return Some(e);
             }
             place = self.before[usize::from(e)];
         }
-        (0..=up_to).find(|&e| passes(e))
+        (0..below).find(|&e| passes(e)).map(|e| e as u8)
     }
 
     // The head of entry i: the head in this number's bucket that is the same term, or the entry itself, which then falls into the bucket.
     fn head(&mut self, i: u8, number: u64, same: impl Fn(&Terms, usize) -> bool) -> u8 {
-        let head = self.find(number, i, |e| same(self, e.into())).unwrap_or(i);
+        let head = self.find(number, i.into(), |e| same(self, e)).unwrap_or(i);
         if head == i {
             let last = &mut self.last[(number % BUCKETS as u64) as usize];
             self.before[usize::from(i)] = *last;
@@ -218,7 +218,7 @@ impl Terms {
     // The half that opens the lock with this key, or 256 where no entry is that half. The opposite of kind 5 is 6, and that of 6 is 5.
     fn opener(&self, key: u64) -> u16 {
         let opposite = self.keys[usize::from(key as u8)] ^ 3 << 32;
-        self.find(opposite, 255, |e| self.keys[usize::from(e)] == opposite).map_or(256, u16::from)
+        self.find(opposite, 256, |e| self.keys[e] == opposite).map_or(256, u16::from)
     }
 }
 
