@@ -57,16 +57,6 @@ pub fn member(s: [u64; 4], e: u8) -> bool
     (nth(s, word_of(e)) >> bit_of(e)) % 2 == 1
 }
 
-// Is e in s, where e may be past every entry?
-pub fn has(s: [u64; 4], e: u16) -> bool
-    ensures { λ r. ⌜ r ≡ member (value s) e ⌝ }
-{
-    if 255 < e {
-        return false;
-    }
-    member(s, e as u8)
-}
-
 // Exactly e.
 pub fn singleton(e: u8) -> [u64; 4]
     ensures { λ r. ⌜ value r ≡ single e ⌝ }
