@@ -2,7 +2,7 @@
 // its least offer without the head, and 65,535 where there is none; "ready" has the heads that have one.
 ghost use mathlib.Core.Path.{_≡_};
 ghost use mathlib.Core.Bool.{cond};
-ghost use mathlib.Core.List.{[], _∷_, _++_};
+ghost use mathlib.Core.List.{[], _∷_};
 ghost use Prim.Native.Nat.{_+_, _*_, _≤_, _<_};
 ghost use lib.Dec.{eqb};
 ghost use lib.ListN.{getD};
@@ -11,7 +11,6 @@ ghost use Rattle.bitset.specs.Words.{value};
 ghost use Rattle.bitset.specs.Inner.{FourWords};
 ghost use Rattle.deduction.specs.Setting.{switches};
 ghost use Rattle.deduction.specs.Run.{byRule};
-ghost use Rattle.canonical.specs.Inner.Key.{keyKind};
 ghost use Rattle.derive.specs.Inner.Offers.{Adds, bothKnown, builtBy, keyGives, keyBuilt, keyOffers, tableOffers, wordOffers, setOffers};
 use crate::rules;
 

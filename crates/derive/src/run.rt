@@ -81,9 +81,10 @@ fn learn(
     ensures known { λ _. ⌜ FourWords (now (known .exit)) × (value (now (known .exit)) ≡ insert (value (now (known .entry))) head) ⌝ }
     ensures offers { λ _. ⌜ Adds (now (best .entry)) (now (ready .entry)) (now (best .exit)) (now (ready .exit)) (keyOffers (switches rules) (insert (value (now (known .entry))) head) (getD (now (keys .entry)) head 0) head ++ setOffers (switches rules) (insert (value (now (known .entry))) head) (now (keys .entry)) (value (getD (now (users .entry)) head [])) 256) ⌝ }
 {
+    let at = head as usize;
     bitset::put(known, head);
     offers::offers(best, ready, known, rules, keys, head);
-    offers::offers_of(best, ready, known, rules, keys, users[head as usize]);
+    offers::offers_of(best, ready, known, rules, keys, users[at]);
 }
 
 // The run over a good sheet from a state by the rules switched on, with its steps written from byte `front` of out on. The state is the known set and the

@@ -19,21 +19,20 @@ use Rattle.deduction.specs.Run as theory
 use Rattle.dag.specs.Sheet.{countOf, goalOf}
 use Rattle.dag.specs.Record.{entryAt}
 use Rattle.dag.specs.Refusal.{refusal}
-use Rattle.dag.proofs.Laws.Good.{good}
-use Rattle.canonical.proofs.Laws.Record.{Bytes, narrow-bytes}
+use Rattle.canonical.proofs.Laws.Record.{Bytes}
 use Rattle.knowledge.specs.Inner.Lines.{Sizes, setIn, Kept as KeptLines, headIn}
 use Rattle.knowledge.proofs.Laws.Learn.{learn-known, learn-rows}
 use Rattle.derive.specs.Bytes.{stepBytes, stepsBytes}
 use Rattle.derive.specs.Inner.Step.{Right, stepIn}
 use Rattle.derive.specs.Inner.Offers.{keyOffers, setOffers, UsersOf, Adds, Kept, nextIn}
-use Rattle.derive.specs.Inner.Machine.{Ended, stepNext, machine}
+use Rattle.derive.specs.Inner.Machine.{Ended, stepNext}
 use Rattle.derive.specs.Inner.Ran.{verdictOf, endAs, LinesOf, endOf, Ran}
 use Rattle.derive.specs.declared.run.Verdict.{Verdict}
 use Rattle.derive.specs.declared.run.Verdict.the-variants.{Derivable, Underivable, Exhausted}
 use Rattle.derive.specs.declared.run.Ended as program
 use Rattle.derive.proofs.Laws.Machine.{prepend, prepend-more, prepend-verdict, prepend-steps, prepend-final, endedAs, machine-derivable, machine-underivable, machine-exhausted, machine-step}
 use Rattle.derive.proofs.Laws.Buffer.{written-more}
-use Rattle.derive.proofs.Laws.Step.{step-same, step-head, step-below, step-rep, step-new}
+use Rattle.derive.proofs.Laws.Step.{Stepped, sheet-step}
 use Rattle.derive.proofs.Laws.Lines.{live-head, sums-of, used-of}
 use Rattle.derive.proofs.Laws.Kept.{sheet-learn, sheet-least}
 
@@ -132,30 +131,8 @@ module _ {on : Setting} {s keys reps : List ℕ} {k : Knowledge} {budget front :
           abbrev learnt : Knowledge
           learnt = learn (setAt (entryAt s)) (a .state) h
 
-          step-is : stepIn keys used x ≡ theory.stepAt (entryAt s) (countOf s) (a .state) x
-          step-is =
-              step-same on (entryAt s) (countOf s) (good s (z .good) .downward) (good s (z .good) .few) (narrow-bytes s (countOf s) elements) keys reps (z .right) (a .state) used
-              (used-of (entryAt s) (countOf s) keys reps (z .right) (a .state) (a .lines)) x found some
-
-          head-is : h ≡ theory.stepAt (entryAt s) (countOf s) (a .state) x .head
-          head-is =
-              step-head on (entryAt s) (countOf s) (good s (z .good) .downward) (good s (z .good) .few) (narrow-bytes s (countOf s) elements) keys reps (z .right) (a .state) used
-              (used-of (entryAt s) (countOf s) keys reps (z .right) (a .state) (a .lines)) x found some
-
-          below : h < countOf s
-          below =
-              step-below on (entryAt s) (countOf s) (good s (z .good) .downward) (good s (z .good) .few) (narrow-bytes s (countOf s) elements) keys reps (z .right) (a .state) used
-              (used-of (entryAt s) (countOf s) keys reps (z .right) (a .state) (a .lines)) x found some
-
-          own : repAt (entryAt s) h ≡ h
-          own =
-              step-rep on (entryAt s) (countOf s) (good s (z .good) .downward) (good s (z .good) .few) (narrow-bytes s (countOf s) elements) keys reps (z .right) (a .state) used
-              (used-of (entryAt s) (countOf s) keys reps (z .right) (a .state) (a .lines)) x found some
-
-          new : member (a .state .known) h ≡ false
-          new =
-              step-new on (entryAt s) (countOf s) (good s (z .good) .downward) (good s (z .good) .few) (narrow-bytes s (countOf s) elements) keys reps (z .right) (a .state) used
-              (used-of (entryAt s) (countOf s) keys reps (z .right) (a .state) (a .lines)) x found some
+          stepped : Stepped (entryAt s) (countOf s) (a .state) keys used x
+          stepped = sheet-step on s (z .good) elements keys reps (z .right) (a .state) used (used-of (entryAt s) (countOf s) keys reps (z .right) (a .state) (a .lines)) x found some
 
           -- the rest of the run, after this step
           rest-after : endOf on s budget k ≡ prepend (a .done ++ (stepNext on (entryAt s) (countOf s) (a .state) ∷ [])) (endOf on s (budget - (made + 1)) learnt)
@@ -167,7 +144,7 @@ module _ {on : Setting} {s keys reps : List ℕ} {k : Knowledge} {budget front :
               ∙ ap (λ (b : ℕ). prepend (a .done) (endOf on s b (a .state))) left
               ∙ ap (prepend (a .done)) (machine-step on (entryAt s) (countOf s) (goalOf s) (a .state) (budget - (made + 1)) (tested ∙ unmet) (λ w. some (found ∙ w)))
               ∙ sym (prepend-more (a .done) s₁ (endOf on s (budget - (made + 1)) (learn (setAt (entryAt s)) (a .state) (s₁ .head))))
-              ∙ ap (λ (j : ℕ). prepend (a .done ++ (s₁ ∷ [])) (endOf on s (budget - (made + 1)) (learn (setAt (entryAt s)) (a .state) j))) (sym (head-is ∙ same))
+              ∙ ap (λ (j : ℕ). prepend (a .done ++ (s₁ ∷ [])) (endOf on s (budget - (made + 1)) (learn (setAt (entryAt s)) (a .state) j))) (sym (stepped .head ∙ same))
             where
               left : budget - made ≡ suc (budget - (made + 1))
               left = omega (arith, less)
@@ -185,13 +162,13 @@ module _ {on : Setting} {s keys reps : List ℕ} {k : Knowledge} {budget front :
             many = length-append (a .done) (s₁ ∷ []) ∙ ap (λ (m : ℕ). m + 1) (a .many);
             rest = rest-after;
             bytes = written-more front out₀ (a .done) made (a .many) (omega (arith, z .space)) out out′ s₁ (a .bytes)
-                (bytes ∙ ap (λ (r : Step). take (front + 40 * made) out ++ (stepBytes r ++ drop 40 (drop (front + 40 * made) out))) (step-is ∙ ap (theory.stepAt (entryAt s) (countOf s) (a .state)) found));
+                (bytes ∙ ap (λ (r : Step). take (front + 40 * made) out ++ (stepBytes r ++ drop 40 (drop (front + 40 * made) out))) (stepped .same ∙ ap (theory.stepAt (entryAt s) (countOf s) (a .state)) found));
             known = insert-is ∙ ap (λ (g : ℕ). insert g h) (a .known) ∙ sym (learn-known (a .state) h (setAt (entryAt s) h));
             lines = subst (λ (rows : List Row). LinesOf s reps rows remainders′ used′ columns′ empty′)
-                (sym (learn-rows (a .state) h (setAt (entryAt s) h) (λ m. absurd (true≢false (sym m ∙ new)))))
-                (swept (headIn reps (countOf s)) (setAt (entryAt s)) (a .state .rows) (live-head (entryAt s) (countOf s) keys reps (z .right) h below own) (a .lines));
+                (sym (learn-rows (a .state) h (setAt (entryAt s) h) (λ m. absurd (true≢false (sym m ∙ stepped .new)))))
+                (swept (headIn reps (countOf s)) (setAt (entryAt s)) (a .state .rows) (live-head (entryAt s) (countOf s) keys reps (z .right) h (stepped .below) (stepped .own)) (a .lines));
             offers = subst (λ (g : ℕ). Kept on (entryAt s) (countOf s) g best′ ready′) (sym insert-is)
-                (sheet-learn on s (z .good) elements keys reps (z .right) (value have) h (setIn users h) below own (z .joined h (omega arith)) (a .offers) adds);
+                (sheet-learn on s (z .good) elements keys reps (z .right) (value have) h (setIn users h) (stepped .below) (stepped .own) (z .joined h (omega arith)) (a .offers) adds);
           }
             where
               s₁ : Step

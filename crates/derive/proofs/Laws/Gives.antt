@@ -10,7 +10,6 @@ use Rattle.bitset.specs.Set.{member}
 use Rattle.deduction.specs.Setting.{Setting}
 use Rattle.deduction.specs.Run.{number, byRule}
 use Rattle.canonical.specs.Inner.Key.{keyKind, keyLeft, keyRight, keyOpener}
-use Rattle.derive.specs.Inner.Step.{Right}
 use Rattle.derive.specs.Inner.Offers.{bothKnown, builtBy, keyGives, keyBuilt, keyOffers}
 
 -- a member test of a part that was read off a key

@@ -3,7 +3,7 @@
 -- one more head is known, with the offers of that head and of its users it does again; `kept-next`, the next step by it is the theory's. The same for a
 -- good sheet: `sheet-start`, `sheet-learn`, `sheet-least`, and `sheet-users` for the table of users. Assumes nothing.
 use mathlib.Core.Path.{_≡_, sym, ap, ap₂, _∙_, subst}
-use mathlib.Core.Bool.{true, false}
+use mathlib.Core.Bool.{true}
 use mathlib.Core.List.{List, [], _∷_, _++_}
 use Prim.Native.Nat.{ℕ, _≤_, _<_}
 use native.Mathlib.Nat.{le-refl}

@@ -1,6 +1,6 @@
 -- The step of a number, read off the tables, is the theory's.
--- Shown: the step of a number, by its rule; for tables that are right for entries that refer downwards, `step-same`, the step of the next number is
--- the theory's, with `step-head`, `step-below`, `step-rep` and `step-new` of its head. The same for a good sheet: `sheet-step` and the others. Assumes nothing.
+-- Defined: `UsedOf`, the used sets are right; `Stepped`, what holds of the step of a number. Shown: the step of a number, by its rule; `step-next`, for tables
+-- that are right for entries that refer downwards, the step of the next number is `Stepped`; `sheet-step`, the same for a good sheet. Assumes nothing.
 use mathlib.Core.Path.{_≡_, refl, sym, ap, _∙_, subst}
 use mathlib.Core.Bool.{Bool, true, false, cond, _&&_}
 use mathlib.Core.Logic.{_⊎_, inl, inr}
@@ -87,6 +87,14 @@ second-part aencs a b = refl
 -- the used sets are right for the heads
 abbrev pub UsedOf : (ℕ → Entry) → ℕ → Knowledge → List (List ℕ) → Type 0
 UsedOf e n k used = (h : ℕ) → h < n → repAt e h ≡ h → setIn used h ≡ reduce (k .rows) (setAt e h) .used
+
+-- the step of number x is the theory's, and its head is a head that isn't known
+pub record Stepped (e : ℕ → Entry) (n : ℕ) (k : Knowledge) (keys : List ℕ) (used : List (List ℕ)) (x : ℕ) : Type 0 where
+  pub same : stepIn keys used x ≡ stepAt e n k x
+  pub head : x / 65536 % 256 ≡ stepAt e n k x .head
+  pub below : x / 65536 % 256 < n
+  pub own : repAt e (x / 65536 % 256) ≡ x / 65536 % 256
+  pub new : member (k .known) (x / 65536 % 256) ≡ false
 
 module _ (on : Setting) (e : ℕ → Entry) (n : ℕ) (down : Downward e n) (few : n ≤ 256) (narrow : Narrow e n)
     (keys reps : List ℕ) (right : Right e n keys reps) where
@@ -206,7 +214,8 @@ module _ (on : Setting) (e : ℕ → Entry) (n : ℕ) (down : Downward e n) (few
       head-named : x / 65536 % 256 ≡ named .0
       head-named = let (h, r, i, q, lh, lr, li, s, own, new) = named in omega (arith, ap (λ (y : ℕ). y / 65536) q ∙ number-head h r i lr li)
 
-      pub step-same : stepIn keys used x ≡ stepAt e n k x
+      -- the same step as the theory's
+      step-same : stepIn keys used x ≡ stepAt e n k x
       unfolding stepIn stepAt
       step-same =
           let (h, r, i, q, lh, lr, li, s, own, new) = named in
@@ -216,15 +225,20 @@ module _ (on : Setting) (e : ℕ → Entry) (n : ℕ) (down : Downward e n) (few
           let pi : x % 256 ≡ i = ap (λ (y : ℕ). y % 256) q ∙ number-first h r i lr li in
           (λ t. lineStep keys used (pm t) (pr t) (pi t)) ∙ s ∙ sym (λ t. expand e n k (ph t) (pr t) (pi t))
 
-      -- the head is that of the theory's step, one of the heads, and not known
-      pub step-head : x / 65536 % 256 ≡ stepAt e n k x .head
+      step-head : x / 65536 % 256 ≡ stepAt e n k x .head
       step-head = let (h, r, i, q, lh, lr, li, s, own, new) = named in omega (arith, step-at-head e n k x)
 
-      pub step-below : x / 65536 % 256 < n
-      step-below = subst (λ (h : ℕ). h < n) (sym head-named) (named .4)
+      pub step-next : Stepped e n k keys used x
+      step-next = record {
+        same = step-same;
+        head = step-head;
+        below = subst (λ (h : ℕ). h < n) (sym head-named) (named .4);
+        own = subst (λ (h : ℕ). repAt e h ≡ h) (sym head-named) (named .8);
+        new = subst (λ (h : ℕ). member g h ≡ false) (sym head-named) (named .9);
+      }
 
-      pub step-rep : repAt e (x / 65536 % 256) ≡ x / 65536 % 256
-      step-rep = subst (λ (h : ℕ). repAt e h ≡ h) (sym head-named) (named .8)
-
-      pub step-new : member g (x / 65536 % 256) ≡ false
-      step-new = subst (λ (h : ℕ). member g h ≡ false) (sym head-named) (named .9)
+-- for a good sheet, whose numbers are narrow since its elements are bytes
+pub sheet-step : (on : Setting) (s : List ℕ) → refusal s ≡ 0 → Bytes s → (keys reps : List ℕ) → Right (entryAt s) (countOf s) keys reps
+    → (k : Knowledge) (used : List (List ℕ)) → UsedOf (entryAt s) (countOf s) k used → (x : ℕ) → x ≡ nextNumber on (entryAt s) (countOf s) k → ¬ (x ≡ noStep)
+    → Stepped (entryAt s) (countOf s) k keys used x
+sheet-step on s ok bytes = step-next on (entryAt s) (countOf s) (good s ok .downward) (good s ok .few) (narrow-bytes s (countOf s) bytes)

@@ -23,7 +23,7 @@ put-requires c κs = search needs
 returns : tie.Need-returns
 returns c = λ xs t. let s = c .before .before .before .before in
     let p = c .put .ensures (t .words) in
-    table-lower t (s .args .head) (s .args .x) (search needs) (s .pre) (c .put .last .0) (c .before .before .if1 .taken) (p .0) (p .1)
+    table-lower t (s .args .head) (s .args .x) (search needs) (s .pre) (c .put .last .0) (omega (arith, c .before .before .if1 .taken, s .pre)) (p .0) (p .1)
 
 returns-2 : tie.Need-returns-2
 returns-2 c = λ xs t. let s = c .before .before in

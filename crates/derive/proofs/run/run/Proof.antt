@@ -1,7 +1,5 @@
 -- `derive::run::run` meets its contract. The loop's invariant: what is safe, what is done, and the run that remains (`Safe`, `Along`).
-use mathlib.Core.Path.{_≡_, sym, ap, _∙_, subst}
-use mathlib.Core.Bool.{false}
-use mathlib.Core.List.{List, []}
+use mathlib.Core.Path.{_≡_, ap, _∙_}
 use Prim.Native.Nat.{ℕ, _+_, _-_, _*_, _≤_, _<_}
 use native.Mathlib.Nat.{le-trans, le-of-eq, lt-of-le-of-lt, lt-of-lt-of-le}
 use native.Mathlib.Omega.{arith}
@@ -13,15 +11,12 @@ use denote.Ref.{now}
 use Rattle.bitset.specs.Words.{value}
 use Rattle.bitset.specs.Inner.{FourWords}
 use Rattle.deduction.specs.Setting.{switches}
-use Rattle.deduction.specs.Standard.{repAt}
 use Rattle.deduction.specs.Elimination.{Knowledge}
-use Rattle.dag.specs.Sheet.{countOf, goalOf}
-use Rattle.dag.specs.Record.{entryAt}
+use Rattle.dag.specs.Sheet.{goalOf}
 use Rattle.dag.proofs.Laws.Good.{good}
 use Rattle.canonical.proofs.Laws.Record.{Bytes}
 use Rattle.derive.specs.Bytes.{stepBytes}
 use Rattle.derive.specs.Inner.Step.{stepIn}
-use Rattle.derive.specs.Inner.Offers.{tableOffers}
 use Rattle.derive.specs.Inner.Ran.{LinesOf}
 use Rattle.derive.proofs.Laws.Along.{Safe, Along, along-start, along-derivable, along-underivable, along-exhausted, along-step}
 use Rattle.derive.proofs.Laws.Buffer.{part-room, part-back, part-length}
@@ -169,10 +164,10 @@ cast-head : tie.Need-cast-head Inv-loop μ-loop
 cast-head c = search needs
 
 sub-make : tie.Need-sub-make Inv-loop μ-loop
-sub-make c = space (c .before .before .before .before .before .before .before .before .before .before .before .before)
+sub-make c = omega (arith, space (c .before .before .before .before .before .before .before .before .before .before .before .before))
 
 part-make-start : tie.Need-part-make-start Inv-loop μ-loop
-part-make-start c = space (c .before .before .before .before .before .before .before .before .before .before .before .before)
+part-make-start c = omega (arith, space (c .before .before .before .before .before .before .before .before .before .before .before .before))
 
 part-make-end : tie.Need-part-make-end Inv-loop μ-loop
 part-make-end c = search needs
@@ -180,7 +175,7 @@ part-make-end c = search needs
 make-requires : tie.Need-make-requires Inv-loop μ-loop
 make-requires c κs = let a = c .before .before .before .before .before .before .before .before .before .before .before .before .before in
     let z = a .loop .inv .0 in
-    (z .sizes, z .size, part-room (a .loop .out) (a .before .before .before .before .before .before .before .before .before .before .before .before .args .front + 40 * a .loop .made) 40 (next-place (c .before .before .before .before .before)))
+    (z .sizes, z .size, part-room (a .loop .out) _ 40 (omega (arith, next-place (c .before .before .before .before .before))))
 
 learn-requires : tie.Need-learn-requires Inv-loop μ-loop
 learn-requires c κs = c .before .before .before .before .before .before .before .before .before .before .before .before .before .before .before .before .before .before .before .before .loop .inv .0 .words
