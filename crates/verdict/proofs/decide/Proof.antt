@@ -59,7 +59,7 @@ cast-goal : tie.Need-cast-goal
 cast-goal c = search needs
 
 array-read-line-of : tie.Need-array-read-line-of
-array-read-line-of c = goal-low (c .before .before)
+array-read-line-of c = omega (arith, goal-low (c .before .before))
 
 line-of-requires : tie.Need-line-of-requires
 line-of-requires c κs = search needs
