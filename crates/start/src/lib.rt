@@ -14,7 +14,7 @@ ghost use Rattle.knowledge.specs.Inner.State.{Holds};
 ghost use Rattle.knowledge.specs.Inner.Lines.{Kept, headIn};
 ghost use Rattle.start.specs.Start.{publicHeads, startHeads};
 ghost use Rattle.start.specs.Inner.State.{publicKey, Keyed, Listing, Started};
-ghost use Rattle.start.specs.Inner.Hearing.{KeptNew, Dropped, fourFrom, Hearable, Hears, Hearing, HeardAll};
+ghost use Rattle.start.specs.Inner.Hearing.{KeptNew, Dropped, fourFrom, Hearable, Hears, Hearing, HeldAll};
 use dag::sheet;
 use knowledge::Knowledge;
 use knowledge::lines;
@@ -157,7 +157,7 @@ fn hear_fours(
     empty: &mut [u64; 4],
 ) -> Knowledge
     requires { ⌜ Hearing (now list) len (now remainders) (now used) (now columns) (now empty) × (len % 4 ≡ 0) ⌝ }
-    ensures { λ r. ⌜ HeardAll (now (list .entry)) len (now (remainders .entry)) (now (used .entry)) (now (columns .entry)) (now (empty .entry)) r (now (remainders .exit)) (now (used .exit)) (now (columns .exit)) (now (empty .exit)) ⌝ }
+    ensures { λ r. ⌜ HeldAll (now (list .entry)) len (now (remainders .entry)) (now (used .entry)) (now (columns .entry)) (now (empty .entry)) r (now (remainders .exit)) (now (used .exit)) (now (columns .exit)) (now (empty .exit)) ⌝ }
 {
     let mut state = Knowledge::new();
     let mut k: usize = 0;
@@ -178,7 +178,7 @@ fn hear(
     empty: &mut [u64; 4],
 ) -> Knowledge
     requires { ⌜ Hearing (now list) len (now remainders) (now used) (now columns) (now empty) ⌝ }
-    ensures { λ r. ⌜ HeardAll (now (list .entry)) len (now (remainders .entry)) (now (used .entry)) (now (columns .entry)) (now (empty .entry)) r (now (remainders .exit)) (now (used .exit)) (now (columns .exit)) (now (empty .exit)) ⌝ }
+    ensures { λ r. ⌜ HeldAll (now (list .entry)) len (now (remainders .entry)) (now (used .entry)) (now (columns .entry)) (now (empty .entry)) r (now (remainders .exit)) (now (used .exit)) (now (columns .exit)) (now (empty .exit)) ⌝ }
 {
     let fours = len - len % 4;
     let mut state = hear_fours(list, fours, remainders, used, columns, empty);

@@ -17,33 +17,33 @@ use Rattle.knowledge.specs.Inner.State.{Room, Holds}
 use Rattle.knowledge.specs.Inner.Lines.{setIn, Kept}
 use Rattle.knowledge.specs.declared.Knowledge as program
 use Rattle.knowledge.proofs.Laws.Learn.{learn-rows}
-use Rattle.start.specs.Inner.Hearing.{Heard, fourFrom}
+use Rattle.start.specs.Inner.Hearing.{Held, fourFrom}
 
 -- before the first head
-pub heard-none : (live : ℕ → Bool) (f : ℕ → ℕ) (x : program.Knowledge) {rs us cs : List (List ℕ)} {empty : List ℕ} → Holds nothing (x .known) (x .rows) (x .len) → Room (x .known) (x .len) → Kept live f [] rs us cs empty
-    → Heard live f [] x rs us cs empty
+pub held-none : (live : ℕ → Bool) (f : ℕ → ℕ) (x : program.Knowledge) {rs us cs : List (List ℕ)} {empty : List ℕ} → Holds nothing (x .known) (x .rows) (x .len) → Room (x .known) (x .len) → Kept live f [] rs us cs empty
+    → Held live f [] x rs us cs empty
 unfolding nothing learnAll
-heard-none live f x holds room kept = record { below = λ e m. absurd (List·Memᴰ·not-nil m); state = holds; room = room; kept = kept }
+held-none live f x holds room kept = record { below = λ e m. absurd (List·Memᴰ·not-nil m); state = holds; room = room; kept = kept }
 
-module _ {live : ℕ → Bool} {f : ℕ → ℕ} {es : List ℕ} {x : program.Knowledge} {rs us cs : List (List ℕ)} {empty : List ℕ} (h : Heard live f es x rs us cs empty) (e : ℕ) (l : live e ≡ true) where
+module _ {live : ℕ → Bool} {f : ℕ → ℕ} {es : List ℕ} {x : program.Knowledge} {rs us cs : List (List ℕ)} {empty : List ℕ} (h : Held live f es x rs us cs empty) (e : ℕ) (l : live e ≡ true) where
   abbrev before : Knowledge
   before = learnAll f nothing es
 
   -- what is left of it, as its line says
-  pub heard-line : setIn rs e ≡ reduce (before .rows) (f e) .remainder
-  heard-line = ap (λ (r : Reduced). r .remainder) (h .kept .line e l)
+  pub held-line : setIn rs e ≡ reduce (before .rows) (f e) .remainder
+  held-line = ap (λ (r : Reduced). r .remainder) (h .kept .line e l)
 
   nothing-left : member (before .known) e ≡ true → reduce (before .rows) (f e) .remainder ≡ 0
   nothing-left m = let t = learnt-all f 256 es (h .below) in t .settled e (t .members e .0 m)
 
   -- of a known head nothing is left
-  pub heard-known : member (value (x .known)) e ≡ true → setIn rs e ≡ 0
-  heard-known m = heard-line ∙ nothing-left (ap (λ (n : ℕ). member n e) (sym (h .state .known)) ∙ m)
+  pub held-known : member (value (x .known)) e ≡ true → setIn rs e ≡ 0
+  held-known m = held-line ∙ nothing-left (ap (λ (n : ℕ). member n e) (sym (h .state .known)) ∙ m)
 
   -- the head learnt, and the tables kept
-  pub heard-more : e < 256 → (y : program.Knowledge) {rs′ us′ cs′ : List (List ℕ)} {empty′ : List ℕ} → Holds (learnAs before e (f e)) (y .known) (y .rows) (y .len) → Room (y .known) (y .len)
-      → Kept live f (addRow (before .rows) e (reduce (before .rows) (f e))) rs′ us′ cs′ empty′ → Heard live f (es ++ (e ∷ [])) y rs′ us′ cs′ empty′
-  heard-more small y {rs′} {us′} {cs′} {empty′} holds room kept = record {
+  pub held-more : e < 256 → (y : program.Knowledge) {rs′ us′ cs′ : List (List ℕ)} {empty′ : List ℕ} → Holds (learnAs before e (f e)) (y .known) (y .rows) (y .len) → Room (y .known) (y .len)
+      → Kept live f (addRow (before .rows) e (reduce (before .rows) (f e))) rs′ us′ cs′ empty′ → Held live f (es ++ (e ∷ [])) y rs′ us′ cs′ empty′
+  held-more small y {rs′} {us′} {cs′} {empty′} holds room kept = record {
     below = λ j m. elim (List·Memᴰ·append-cases es m) [ inl o ↦ h .below j o | inr o ↦ one j (List·Memᴰ·cases-cons o) ];
     state = subst (λ (k : Knowledge). Holds k (y .known) (y .rows) (y .len)) (sym (learnAll-more f nothing es e)) holds;
     room = room;
@@ -75,8 +75,8 @@ take-four list k h =
     step i j p l = take-one list i l ∙ ap (λ (n : ℕ). take n list) (sym p)
 
 -- the same heads
-pub heard-same : {live : ℕ → Bool} {f : ℕ → ℕ} {es es′ : List ℕ} {x : program.Knowledge} {rs us cs : List (List ℕ)} {empty : List ℕ} → es ≡ es′ → Heard live f es x rs us cs empty → Heard live f es′ x rs us cs empty
-heard-same {live} {f} {es} {es′} {x} {rs} {us} {cs} {empty} p = subst (λ (l : List ℕ). Heard live f l x rs us cs empty) p
+pub held-same : {live : ℕ → Bool} {f : ℕ → ℕ} {es es′ : List ℕ} {x : program.Knowledge} {rs us cs : List (List ℕ)} {empty : List ℕ} → es ≡ es′ → Held live f es x rs us cs empty → Held live f es′ x rs us cs empty
+held-same {live} {f} {es} {es′} {x} {rs} {us} {cs} {empty} p = subst (λ (l : List ℕ). Held live f l x rs us cs empty) p
 
 -- four heads of a list that are live
 pub four-live : (live : ℕ → Bool) (list : List ℕ) (k : ℕ) → ((i : ℕ) → i < k + 4 → live (getD list i 0) ≡ true) → (h : ℕ) → List·Memᴰ h (fourFrom list k) → live h ≡ true

@@ -5,14 +5,14 @@ use Prim.Native.Nat.{ℕ, _-_, _≤_, _<_}
 use native.Mathlib.Omega.{arith}
 use denote.Ref.{now}
 use lib.ListN.{getD, take}
-use Rattle.start.specs.Inner.Hearing.{Heard}
-use Rattle.start.proofs.Laws.Hearing.{heard-same, take-one, alone}
+use Rattle.start.specs.Inner.Hearing.{Held}
+use Rattle.start.proofs.Laws.Hearing.{held-same, take-one, alone}
 use borrow.Author.Needs.{needs}
 use Rattle.start.proofs.hear.Statement.{statement}
 use Rattle.start.proofs.hear.Tie as tie
 
 abbrev Inv-loop : tie.InvT-loop
-Inv-loop list len remainders₀ used₀ columns₀ empty₀ fours state₀ k₀ remainders used columns empty state k = (k ≤ len) × ((live : ℕ → Bool) (f : ℕ → ℕ) → ((i : ℕ) → i < len → live (getD list i 0) ≡ true) → Heard live f (take k₀ list) state₀ remainders₀ used₀ columns₀ empty₀ → Heard live f (take k list) state remainders used columns empty)
+Inv-loop list len remainders₀ used₀ columns₀ empty₀ fours state₀ k₀ remainders used columns empty state k = (k ≤ len) × ((live : ℕ → Bool) (f : ℕ → ℕ) → ((i : ℕ) → i < len → live (getD list i 0) ≡ true) → Held live f (take k₀ list) state₀ remainders₀ used₀ columns₀ empty₀ → Held live f (take k list) state remainders used columns empty)
 
 abbrev μ-loop : tie.MeasureT-loop
 μ-loop list len remainders₀ used₀ columns₀ empty₀ fours state₀ k₀ remainders used columns empty state k = len - k
@@ -43,13 +43,13 @@ loop-less c = omega (arith, c .before .before .before .before .before .before .l
 loop-again : tie.Need-loop-again Inv-loop μ-loop
 loop-again c = let l = c .before .before .before .before .before .before .before .loop in let s = c .before .before .before .before .before .before .before .before .before .before .before .before .before in let p = s .pre in (
   omega (arith, c .before .before .before .before .before .before .loop-test .taken),
-  λ live f lives h. heard-same (take-one (now (s .args .list)) (l .k) (omega (arith, p .within, p .room, c .before .before .before .before .before .before .loop-test .taken)))
+  λ live f lives h. held-same (take-one (now (s .args .list)) (l .k) (omega (arith, p .within, p .room, c .before .before .before .before .before .before .loop-test .taken)))
       (c .hear-one .ensures live f (take (l .k) (now (s .args .list))) (alone live _ (lives (l .k) (omega (arith, c .before .before .before .before .before .before .loop-test .taken)))) (l .inv .1 live f lives h)),
 )
 
 returns : tie.Need-returns Inv-loop μ-loop
 returns c = λ live f lives kept. let l = c .before .loop in let s = c .before .before .before .before .before .before .before in let done : l .k ≡ s .args .len = omega (arith, l .inv .0, c .loop-test .left) in
-    heard-same (ap (λ (n : ℕ). take n (now (s .args .list))) done) (l .inv .1 live f lives (c .before .before .hear-fours .ensures live f (λ i m. lives i (omega arith)) kept))
+    held-same (ap (λ (n : ℕ). take n (now (s .args .list))) done) (l .inv .1 live f lives (c .before .before .hear-fours .ensures live f (λ i m. lives i (omega arith)) kept))
 
 pub hear-spec : {M : Type 1} → statement M
 hear-spec =

@@ -6,8 +6,8 @@ use Prim.Native.Nat.{ℕ, _+_}
 use native.Mathlib.Omega.{arith}
 use denote.Ref.{now}
 use lib.ListN.{getD}
-use Rattle.start.specs.Inner.Hearing.{Heard, fourFrom}
-use Rattle.start.proofs.Laws.Hearing.{four-more, heard-same, alone}
+use Rattle.start.specs.Inner.Hearing.{Held, fourFrom}
+use Rattle.start.proofs.Laws.Hearing.{four-more, held-same, alone}
 use borrow.Author.Needs.{needs}
 use Rattle.start.proofs.hear_four.Statement.{statement}
 use Rattle.start.proofs.hear_four.Tie as tie
@@ -27,18 +27,18 @@ fourth = List·Memᴰ·tail (List·Memᴰ·tail (List·Memᴰ·tail (List·Mem�
 
 -- what holds after one, two and three of them
 after1 : (c : tie.After-hear-one) → let s = c .before .before .before .before .before .before in (live : ℕ → Bool) (f : ℕ → ℕ) (es : List ℕ) → ((h : ℕ) → List·Memᴰ h (fourFrom (now (s .args .list)) (s .args .k)) → live h ≡ true)
-    → Heard live f es (s .args .state) (now (s .args .remainders)) (now (s .args .used)) (now (s .args .columns)) (now (s .args .empty))
-    → Heard live f (es ++ (getD (now (s .args .list)) (s .args .k) 0 ∷ [])) (c .hear-one .result) (c .hear-one .last .1 .1 .0) (c .hear-one .last .1 .1 .1 .0) (c .hear-one .last .1 .1 .1 .1 .0) (c .hear-one .last .1 .1 .1 .1 .1 .0)
+    → Held live f es (s .args .state) (now (s .args .remainders)) (now (s .args .used)) (now (s .args .columns)) (now (s .args .empty))
+    → Held live f (es ++ (getD (now (s .args .list)) (s .args .k) 0 ∷ [])) (c .hear-one .result) (c .hear-one .last .1 .1 .0) (c .hear-one .last .1 .1 .1 .0) (c .hear-one .last .1 .1 .1 .1 .0) (c .hear-one .last .1 .1 .1 .1 .1 .0)
 after1 c live f es lives h = c .hear-one .ensures live f es (alone live _ (lives _ first)) h
 
 after2 : (c : tie.After-hear-one2) → let a = c .before .before .before .before .before .before in let s = a .before .before .before .before .before .before in (live : ℕ → Bool) (f : ℕ → ℕ) (es : List ℕ) → ((h : ℕ) → List·Memᴰ h (fourFrom (now (s .args .list)) (s .args .k)) → live h ≡ true)
-    → Heard live f es (s .args .state) (now (s .args .remainders)) (now (s .args .used)) (now (s .args .columns)) (now (s .args .empty))
-    → Heard live f ((es ++ (getD (now (s .args .list)) (s .args .k) 0 ∷ [])) ++ (getD (now (s .args .list)) (s .args .k + 1) 0 ∷ [])) (c .hear-one2 .result) (c .hear-one2 .last .1 .1 .0) (c .hear-one2 .last .1 .1 .1 .0) (c .hear-one2 .last .1 .1 .1 .1 .0) (c .hear-one2 .last .1 .1 .1 .1 .1 .0)
+    → Held live f es (s .args .state) (now (s .args .remainders)) (now (s .args .used)) (now (s .args .columns)) (now (s .args .empty))
+    → Held live f ((es ++ (getD (now (s .args .list)) (s .args .k) 0 ∷ [])) ++ (getD (now (s .args .list)) (s .args .k + 1) 0 ∷ [])) (c .hear-one2 .result) (c .hear-one2 .last .1 .1 .0) (c .hear-one2 .last .1 .1 .1 .0) (c .hear-one2 .last .1 .1 .1 .1 .0) (c .hear-one2 .last .1 .1 .1 .1 .1 .0)
 after2 c live f es lives h = c .hear-one2 .ensures live f _ (alone live _ (lives _ second)) (after1 (c .before .before .before .before .before .before) live f es lives h)
 
 after3 : (c : tie.After-hear-one3) → let a = c .before .before .before .before .before .before .before .before .before .before .before .before in let s = a .before .before .before .before .before .before in (live : ℕ → Bool) (f : ℕ → ℕ) (es : List ℕ) → ((h : ℕ) → List·Memᴰ h (fourFrom (now (s .args .list)) (s .args .k)) → live h ≡ true)
-    → Heard live f es (s .args .state) (now (s .args .remainders)) (now (s .args .used)) (now (s .args .columns)) (now (s .args .empty))
-    → Heard live f (((es ++ (getD (now (s .args .list)) (s .args .k) 0 ∷ [])) ++ (getD (now (s .args .list)) (s .args .k + 1) 0 ∷ [])) ++ (getD (now (s .args .list)) (s .args .k + 2) 0 ∷ [])) (c .hear-one3 .result) (c .hear-one3 .last .1 .1 .0) (c .hear-one3 .last .1 .1 .1 .0) (c .hear-one3 .last .1 .1 .1 .1 .0) (c .hear-one3 .last .1 .1 .1 .1 .1 .0)
+    → Held live f es (s .args .state) (now (s .args .remainders)) (now (s .args .used)) (now (s .args .columns)) (now (s .args .empty))
+    → Held live f (((es ++ (getD (now (s .args .list)) (s .args .k) 0 ∷ [])) ++ (getD (now (s .args .list)) (s .args .k + 1) 0 ∷ [])) ++ (getD (now (s .args .list)) (s .args .k + 2) 0 ∷ [])) (c .hear-one3 .result) (c .hear-one3 .last .1 .1 .0) (c .hear-one3 .last .1 .1 .1 .0) (c .hear-one3 .last .1 .1 .1 .1 .0) (c .hear-one3 .last .1 .1 .1 .1 .1 .0)
 after3 c live f es lives h = c .hear-one3 .ensures live f _ (alone live _ (lives _ third)) (after2 (c .before .before .before .before .before .before) live f es lives h)
 
 element-copy-out-hear-one : tie.Need-element-copy-out-hear-one
@@ -76,7 +76,7 @@ hear-one-requires-4 c κs = let s = c .before .before .before .before .before .b
 
 returns : tie.Need-returns
 returns c = λ live f es lives h. let s = c .before .before .before .before .before .before .before .before .before .before .before .before .before .before .before .before .before .before .before .before .before .before .before .before in
-    heard-same (four-more es (getD (now (s .args .list)) (s .args .k) 0) (getD (now (s .args .list)) (s .args .k + 1) 0) (getD (now (s .args .list)) (s .args .k + 2) 0) (getD (now (s .args .list)) (s .args .k + 3) 0))
+    held-same (four-more es (getD (now (s .args .list)) (s .args .k) 0) (getD (now (s .args .list)) (s .args .k + 1) 0) (getD (now (s .args .list)) (s .args .k + 2) 0) (getD (now (s .args .list)) (s .args .k + 3) 0))
     (c .hear-one4 .ensures live f _ (alone live _ (lives _ fourth)) (after3 (c .before .before .before .before .before .before) live f es lives h))
 
 pub hear-four-spec : {M : Type 1} → statement M

@@ -8,14 +8,14 @@ use native.Mathlib.Omega.{arith}
 use denote.Ref.{now}
 use lib.ListN.{getD, take}
 use Rattle.knowledge.specs.Inner.Lines.{Kept}
-use Rattle.start.specs.Inner.Hearing.{Heard, fourFrom}
-use Rattle.start.proofs.Laws.Hearing.{heard-none, heard-same, take-four, four-live}
+use Rattle.start.specs.Inner.Hearing.{Held, fourFrom}
+use Rattle.start.proofs.Laws.Hearing.{held-none, held-same, take-four, four-live}
 use borrow.Author.Needs.{needs}
 use Rattle.start.proofs.hear_fours.Statement.{statement}
 use Rattle.start.proofs.hear_fours.Tie as tie
 
 abbrev Inv-loop : tie.InvT-loop
-Inv-loop list len remainders₀ used₀ columns₀ empty₀ state₀ k₀ remainders used columns empty state k = (k ≤ len) × (k % 4 ≡ 0) × ((live : ℕ → Bool) (f : ℕ → ℕ) → ((i : ℕ) → i < len → live (getD list i 0) ≡ true) → Kept live f [] remainders₀ used₀ columns₀ empty₀ → Heard live f (take k list) state remainders used columns empty)
+Inv-loop list len remainders₀ used₀ columns₀ empty₀ state₀ k₀ remainders used columns empty state k = (k ≤ len) × (k % 4 ≡ 0) × ((live : ℕ → Bool) (f : ℕ → ℕ) → ((i : ℕ) → i < len → live (getD list i 0) ≡ true) → Kept live f [] remainders₀ used₀ columns₀ empty₀ → Held live f (take k list) state remainders used columns empty)
 
 abbrev μ-loop : tie.MeasureT-loop
 μ-loop list len remainders₀ used₀ columns₀ empty₀ state₀ k₀ remainders used columns empty state k = len - k
@@ -24,7 +24,7 @@ new-requires : tie.Need-new-requires Inv-loop μ-loop
 new-requires c κs = search needs
 
 loop-holds : tie.Need-loop-holds Inv-loop μ-loop
-loop-holds c = (omega arith, refl, λ live f lives kept. heard-none live f (c .new .result) (c .new .ensures .0) (c .new .ensures .1) kept)
+loop-holds c = (omega arith, refl, λ live f lives kept. held-none live f (c .new .result) (c .new .ensures .0) (c .new .ensures .1) kept)
 
 hear-four-requires : tie.Need-hear-four-requires Inv-loop μ-loop
 hear-four-requires c κs = let l = c .before .before .before .before .before .loop in let s = c .before .before .before .before .before .before .before in let p = s .pre .0 in
@@ -42,13 +42,13 @@ loop-again c = let l = c .before .before .before .before .before .before .loop i
     let more : l .k + 4 ≤ s .args .len = omega (arith, l .inv .0, l .inv .1, s .pre .1, c .before .before .before .before .before .loop-test .taken) in (
       more,
       omega (arith, l .inv .1),
-      λ live f lives kept. heard-same (take-four (now (s .args .list)) (l .k) (omega (arith, more, p .within, p .room)))
+      λ live f lives kept. held-same (take-four (now (s .args .list)) (l .k) (omega (arith, more, p .within, p .room)))
           (c .hear-four .ensures live f (take (l .k) (now (s .args .list))) (four-live live (now (s .args .list)) (l .k) (λ i a. lives i (omega arith))) (l .inv .2 live f lives kept)),
     )
 
 returns : tie.Need-returns Inv-loop μ-loop
 returns c = λ live f lives kept. let l = c .before .loop in let s = c .before .before .before in let done : l .k ≡ s .args .len = omega (arith, l .inv .0, c .loop-test .left) in
-    heard-same (ap (λ (n : ℕ). take n (now (s .args .list))) done) (l .inv .2 live f lives kept)
+    held-same (ap (λ (n : ℕ). take n (now (s .args .list))) done) (l .inv .2 live f lives kept)
 
 pub hear-fours-spec : {M : Type 1} → statement M
 hear-fours-spec =

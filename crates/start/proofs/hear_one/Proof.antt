@@ -3,7 +3,7 @@ use mathlib.Core.Path.{_≡_, refl, sym, ap, _∙_}
 use mathlib.Core.List.{List·Memᴰ·head}
 use native.Mathlib.Omega.{arith}
 use Rattle.deduction.specs.Elimination.{learnAll, nothing}
-use Rattle.start.proofs.Laws.Hearing.{heard-line, heard-known, heard-more}
+use Rattle.start.proofs.Laws.Hearing.{held-line, held-known, held-more}
 use borrow.Author.Needs.{needs}
 use Rattle.start.proofs.hear_one.Statement.{statement}
 use Rattle.start.proofs.hear_one.Tie as tie
@@ -18,12 +18,12 @@ sweep-requires : tie.Need-sweep-requires
 sweep-requires c κs = let h = c .before .before .before .before .before .pre .4 in (h .kept .sizes, h .kept .size)
 
 hear-requires : tie.Need-hear-requires
-hear-requires c κs = let s = c .before .before .before .before .before .before in let h = s .pre .4 in (h .room, heard-known h (s .args .e) (s .pre .3 (s .args .e) (List·Memᴰ·head refl)))
+hear-requires c κs = let s = c .before .before .before .before .before .before in let h = s .pre .4 in (h .room, held-known h (s .args .e) (s .pre .3 (s .args .e) (List·Memᴰ·head refl)))
 
 returns : tie.Need-returns
 returns c = let s = c .before .before .before .before .before .before .before in let e = s .args .e in
     λ live f es lives h. let l = lives e (List·Memᴰ·head refl) in
-    heard-more h e l (omega arith) (c .hear .result) (c .hear .ensures .0 (learnAll f nothing es) (f e) (h .state) (heard-line h e l)) (c .hear .ensures .1) (c .before .sweep .ensures .1 live f (learnAll f nothing es .rows) l (h .kept))
+    held-more h e l (omega arith) (c .hear .result) (c .hear .ensures .0 (learnAll f nothing es) (f e) (h .state) (held-line h e l)) (c .hear .ensures .1) (c .before .sweep .ensures .1 live f (learnAll f nothing es .rows) l (h .kept))
 
 pub hear-one-spec : {M : Type 1} → statement M
 hear-one-spec =

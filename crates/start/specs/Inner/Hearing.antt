@@ -1,6 +1,6 @@
 -- Heads heard one by one.
--- Defined: `KeptNew` and `Dropped`, a list without repeats; `Heard`, what holds after some heads; `Hearable`, what hearing more of them needs, and `Hears`, what it
--- does; `Hearing` and `HeardAll`, the same for the first heads of a list, from nothing; `fourFrom`, four of them.
+-- Defined: `KeptNew` and `Dropped`, a list without repeats; `Held`, what holds after some heads; `Hearable`, what hearing more of them needs, and `Hears`, what it
+-- does; `Hearing` and `HeldAll`, the same for the first heads of a list, from nothing; `fourFrom`, four of them.
 use Prim.Native.Nat.{ℕ, _+_, _≤_, _<_}
 use mathlib.Core.Path.{_≡_}
 use mathlib.Core.Bool.{Bool, true, false}
@@ -28,18 +28,18 @@ pub record Dropped (len : ℕ) (list list′ : List ℕ) (r : ℕ) : Type 0 wher
   pub among : (live : ℕ → Bool) → ((k : ℕ) → k < len → live (getD list k 0) ≡ true) → (k : ℕ) → k < r → live (getD list′ k 0) ≡ true
 
 -- after the heads `es`, with sets f, the state is what is known of them, and the tables are kept for the live entries
-pub record Heard (live : ℕ → Bool) (f : ℕ → ℕ) (es : List ℕ) (x : Knowledge) (rs us cs : List (List ℕ)) (empty : List ℕ) : Type 0 where
+pub record Held (live : ℕ → Bool) (f : ℕ → ℕ) (es : List ℕ) (x : Knowledge) (rs us cs : List (List ℕ)) (empty : List ℕ) : Type 0 where
   pub below : (e : ℕ) → List·Memᴰ e es → e < 256
   pub state : Holds (learnAll f nothing es) (x .known) (x .rows) (x .len)
   pub room : Room (x .known) (x .len)
   pub kept : Kept live f (learnAll f nothing es .rows) rs us cs empty
 
 abbrev pub Hearable : List ℕ → Knowledge → List (List ℕ) → List (List ℕ) → List (List ℕ) → List ℕ → Type 0
-Hearable heads x rs us cs empty = (live : ℕ → Bool) × (f : ℕ → ℕ) × (es : List ℕ) × ((h : ℕ) → List·Memᴰ h heads → live h ≡ true) × Heard live f es x rs us cs empty
+Hearable heads x rs us cs empty = (live : ℕ → Bool) × (f : ℕ → ℕ) × (es : List ℕ) × ((h : ℕ) → List·Memᴰ h heads → live h ≡ true) × Held live f es x rs us cs empty
 
 abbrev pub Hears : List ℕ → Knowledge → List (List ℕ) → List (List ℕ) → List (List ℕ) → List ℕ → Knowledge → List (List ℕ) → List (List ℕ) → List (List ℕ) → List ℕ → Type 0
 Hears heads x rs us cs empty x′ rs′ us′ cs′ empty′ =
-    (live : ℕ → Bool) (f : ℕ → ℕ) (es : List ℕ) → ((h : ℕ) → List·Memᴰ h heads → live h ≡ true) → Heard live f es x rs us cs empty → Heard live f (es ++ heads) x′ rs′ us′ cs′ empty′
+    (live : ℕ → Bool) (f : ℕ → ℕ) (es : List ℕ) → ((h : ℕ) → List·Memᴰ h heads → live h ≡ true) → Held live f es x rs us cs empty → Held live f (es ++ heads) x′ rs′ us′ cs′ empty′
 
 -- the four heads from place k on
 abbrev pub fourFrom : List ℕ → ℕ → List ℕ
@@ -54,6 +54,6 @@ pub record Hearing (list : List ℕ) (len : ℕ) (rs us cs : List (List ℕ)) (e
   pub lives : (k : ℕ) → k < len → live (getD list k 0) ≡ true
   pub kept : Kept live sets [] rs us cs empty
 
-abbrev pub HeardAll : List ℕ → ℕ → List (List ℕ) → List (List ℕ) → List (List ℕ) → List ℕ → Knowledge → List (List ℕ) → List (List ℕ) → List (List ℕ) → List ℕ → Type 0
-HeardAll list len rs us cs empty x rs′ us′ cs′ empty′ =
-    (live : ℕ → Bool) (f : ℕ → ℕ) → ((k : ℕ) → k < len → live (getD list k 0) ≡ true) → Kept live f [] rs us cs empty → Heard live f (take len list) x rs′ us′ cs′ empty′
+abbrev pub HeldAll : List ℕ → ℕ → List (List ℕ) → List (List ℕ) → List (List ℕ) → List ℕ → Knowledge → List (List ℕ) → List (List ℕ) → List (List ℕ) → List ℕ → Type 0
+HeldAll list len rs us cs empty x rs′ us′ cs′ empty′ =
+    (live : ℕ → Bool) (f : ℕ → ℕ) → ((k : ℕ) → k < len → live (getD list k 0) ≡ true) → Kept live f [] rs us cs empty → Held live f (take len list) x rs′ us′ cs′ empty′
