@@ -58,7 +58,7 @@ fn measure(s: &[u8], cut: u32) -> (u32, [f64; 5]) {
             answers[i] = answer;
             times[i].push(time);
         }
-        assert!((1..5).all(|i| answers[i] == answers[0] && outs[i] == outs[0]), "the library and plain Rust differ");
+        assert!((1..5).all(|i| answers[i] == answers[0] && outs[i] == outs[0]), "the library, plain Rust and the simple verdict differ");
     }
     (answers[0], times.map(median))
 }
@@ -115,7 +115,7 @@ fn rows(name: &str, make: fn(usize) -> Parts) {
 }
 
 fn main() {
-    // `mixed` and `stuck` end out of reach, and so does every cut of the two cards: since request E5 such a call makes one sum test more, of the goal.
+    // `mixed` and `stuck` end out of reach, and so does every cut of the two cards.
     println!("                           simple, us      plain Rust, us   ratio to simple       to plain Rust   with a setting, ratio");
     println!("sheet       n   library us   by value   by value     lent          by value   by value     lent       us   to the verdict   verdict and rungs");
     kinds::BY_NAME.into_iter().for_each(|(name, make)| rows(name, make));

@@ -535,7 +535,10 @@ fn main() {
     larger_sheets(&mut t);
     records::random_sheets(&mut t, &mut r);
     locks::random_sheets(&mut t, &mut r);
-    beside::sheets(&mut t);
+    // Not on a library that is wrong on purpose, which is made from one of these verdicts: there the reading has to find the fault.
+    if std::env::args().len() == 1 {
+        beside::sheets(&mut t);
+    }
     let pairs = every_pair(&mut t, &mut r);
     let (tried, failed) = off::tried(&mut r);
     println!("brute force: {} calls, {} reached, {} out of reach, {} of them with a used set, {} stopped, {} refused", t.calls, t.reached, t.out, t.used, t.stopped, t.refused);

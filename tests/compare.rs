@@ -45,8 +45,8 @@ fn limited_earlier(s: &[u8], cut: u32, budget: u32, rules: u8, out: &mut [u8]) -
 
 // ---- answers and bytes
 
-// What the change leaves alone, to be said anew for each change. Request E7 adds a call, the quick verdict. So no sheet is left out: the three earlier calls
-// answer as they did, with the same bytes, and the new one answers as the full verdict did with every budget of at most 64.
+// What the change leaves alone, to be said anew for each change. The faster run moves no answer and no byte. So no sheet is left out: the calls answer as they
+// did, with the same bytes, and the quick one answers as the full verdict did with every budget of at most 64.
 const QUICK_LIMIT: u32 = 64;
 
 // Has the sheet, good or not, a record of kind 5 to 7 in a place that is on the sheet?

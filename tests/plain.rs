@@ -64,19 +64,20 @@ fn each(set: &Set, mut visit: impl FnMut(u8)) {
 
 // The bytes of a set, the lowest members first.
 fn write_set(set: &Set, bytes: &mut [u8]) {
-    set.iter().zip(bytes.as_chunks_mut().0).for_each(|(word, place)| *place = word.to_le_bytes());
+    set.iter().zip(bytes.chunks_exact_mut(8)).for_each(|(word, place)| place.copy_from_slice(&word.to_le_bytes()));
 }
 
 // ---- the sheet
 
-fn number(bytes: [u8; 2]) -> usize {
-    u16::from_be_bytes(bytes).into()
+// The number of the first two bytes.
+fn number(bytes: &[u8]) -> usize {
+    u16::from_be_bytes([bytes[0], bytes[1]]).into()
 }
 
 struct Sheet<'a> {
     goal: usize,
-    directory: &'a [[u8; 4]],
-    heard: &'a [[u8; 2]],
+    directory: &'a [u8], // four bytes an entry
+    heard: &'a [u8],     // two bytes a message
     records: &'a [u8],
 }
 
@@ -86,19 +87,22 @@ fn parts(bytes: &[u8]) -> Result<Sheet<'_>, u32> {
     if bytes.len() > LONGEST {
         return Err(1);
     }
-    let (n, h, goal) = (number([a, b]), number([c, d]), number([e, f]));
+    let (n, h, goal) = (number(&[a, b]), number(&[c, d]), number(&[e, f]));
     if n < 1 || n > 256 || h > 256 || goal >= n {
         return Err(2);
     }
-    let (directory, rest) = rest.split_at_checked(4 * n).ok_or(3u32)?;
-    let (heard, records) = rest.split_at_checked(2 * h).ok_or(3u32)?;
-    let (directory, heard) = (directory.as_chunks().0, heard.as_chunks().0);
+    if rest.len() < 4 * n + 2 * h {
+        return Err(3);
+    }
+    let (directory, rest) = rest.split_at(4 * n);
+    let (heard, records) = rest.split_at(2 * h);
     let mut at = bytes.len() - records.len();
-    for &[a, b, c, d] in directory {
-        if number([a, b]) != at || number([c, d]) == 0 || at + number([c, d]) > bytes.len() {
+    for pair in directory.chunks_exact(4) {
+        let length = number(&pair[2..]);
+        if number(pair) != at || length == 0 || at + length > bytes.len() {
             return Err(4);
         }
-        at += number([c, d]);
+        at += length;
     }
     if at < bytes.len() { Err(4) } else { Ok(Sheet { goal, directory, heard, records }) }
 }
@@ -170,9 +174,9 @@ impl Terms {
     }
 
     // Entry i is the sum of these items. A set of one standard entry is that entry's term.
-    fn add_sum(&mut self, i: u8, items: &[[u8; 2]]) {
+    fn add_sum(&mut self, i: u8, items: &[u8]) {
         let mut set = EMPTY;
-        items.iter().for_each(|&[_, item]| add(&mut set, &self.lines[usize::from(item)].remainder));
+        items.chunks_exact(2).for_each(|item| add(&mut set, &self.lines[usize::from(item[1])].remainder));
         self.lines[usize::from(i)].remainder = set;
         let (highest, mut alone) = (leading(&set), EMPTY);
         put(&mut alone, highest);
@@ -183,19 +187,19 @@ impl Terms {
 
     // Reads the record of entry i, or refuses it by rows 5, 6 and 12 of the table.
     fn read(&mut self, i: u8, record: &[u8]) -> Result<(), u32> {
-        let forward = |items: &[[u8; 2]]| items.iter().fold(false, |any, &item| any | (number(item) >= usize::from(i)));
+        let forward = |items: &[u8]| items.chunks_exact(2).fold(false, |any, item| any | (number(item) >= usize::from(i)));
         let head = |e: u8| u64::from(self.heads[usize::from(e)]);
         let below = match *record {
             [0] => 0,
             [4, ref items @ ..] if items.len() % 2 == 0 && items.len() <= 128 => 0,
             [1, a, b] | [5 | 6, a, b] => u64::from(u16::from_be_bytes([a, b])),
             [1, a, b, c, d] => u64::from(u32::from_be_bytes([a, b, c, d])),
-            [2 | 3 | 7, a, b, c, d] if forward(&[[a, b], [c, d]]) => return Err(6),
+            [2 | 3 | 7, _, _, _, _] if forward(&record[1..]) => return Err(6),
             [7, _, _, _, key] if !matches!(self.keys[usize::from(key)] >> 32, 5 | 6) => return Err(12),
             [2 | 3 | 7, _, left, _, right] => head(left) << 8 | head(right),
             _ => return Err(5),
         };
-        let items = record[1..].as_chunks().0;
+        let items = &record[1..];
         match record[0] {
             0 | 4 if forward(items) => return Err(6),
             0 | 4 => self.add_sum(i, items),
@@ -207,12 +211,12 @@ impl Terms {
     // Reads every record, in order, and the numbers of the heard messages.
     fn read_all(&mut self, sheet: &Sheet) -> Result<(), u32> {
         let mut rest = sheet.records;
-        for (i, &[_, _, c, d]) in sheet.directory.iter().enumerate() {
-            let (record, later) = rest.split_at(number([c, d]));
+        for (i, pair) in sheet.directory.chunks_exact(4).enumerate() {
+            let (record, later) = rest.split_at(number(&pair[2..]));
             self.read(i as u8, record)?;
             rest = later;
         }
-        if sheet.heard.iter().any(|&message| number(message) >= sheet.directory.len()) { Err(7) } else { Ok(()) }
+        if sheet.heard.chunks_exact(2).any(|message| 4 * number(message) >= sheet.directory.len()) { Err(7) } else { Ok(()) }
     }
 
     // The half that opens the lock with this key, or 256 where no entry is that half. The opposite of kind 5 is 6, and that of 6 is 5.
@@ -388,7 +392,7 @@ impl Run<'_> {
     }
 
     // The rung by which the best offer gains the head.
-    fn write(&self, head: u8, rung: &mut [u8; 40]) {
+    fn write(&self, head: u8, rung: &mut [u8]) {
         let [rule, source] = self.best[usize::from(head)].to_be_bytes();
         let right = |e: u8| self.terms.keys[usize::from(e)] & 255;
         let (first, second, set) = match rule {
@@ -404,8 +408,8 @@ impl Run<'_> {
     }
 
     // Makes rungs until the goal is known, nothing is offered or the budget is used up: the verdict's thousand and the number of rungs.
-    fn climb(&mut self, goal: u8, places: &mut [[u8; 40]]) -> u32 {
-        let (mut made, mut places) = (0, places.iter_mut());
+    fn climb(&mut self, goal: u8, places: &mut [u8]) -> u32 {
+        let (mut made, mut places) = (0, places.chunks_exact_mut(40));
         while !has(&self.known, goal) {
             let Some(head) = lowest(&self.offered) else { return 2000 + made };
             let Some(rung) = places.next() else { return 3000 + made };
@@ -420,19 +424,19 @@ impl Run<'_> {
 // ---- the call
 
 // The heads known at the start, in order: the public atoms, then the messages before the cut.
-fn start<'a>(terms: &Terms, heard: &[[u8; 2]], list: &'a mut [u8; 512]) -> &'a [u8] {
+fn start<'a>(terms: &Terms, heard: &[u8], list: &'a mut [u8; 512]) -> &'a [u8] {
     let mut length = 0;
     let mut push = |head: u8| {
         list[length] = head;
         length += 1;
     };
     each(&terms.public, &mut push);
-    heard.iter().for_each(|&[_, message]| push(terms.heads[usize::from(message)]));
+    heard.chunks_exact(2).for_each(|message| push(terms.heads[usize::from(message[1])]));
     &list[..length]
 }
 
 // Hears these heads in order, and makes rungs: the answer with its bytes. Without the sum rule every head keeps its own set.
-fn work<const BY_VALUE: bool>(terms: &mut Terms, start: &[u8], goal: u8, rules: u8, front: &mut [u8], places: &mut [[u8; 40]]) -> u32 {
+fn work<const BY_VALUE: bool>(terms: &mut Terms, start: &[u8], goal: u8, rules: u8, front: &mut [u8], places: &mut [u8]) -> u32 {
     let mut state = State { known: EMPTY, pivots: EMPTY, tails: EMPTY, rows: [EMPTY; 256] };
     let mut uses = [EMPTY; 256];
     for &e in start {
@@ -464,14 +468,14 @@ fn judge<const BY_VALUE: bool>(bytes: &[u8], cut: u32, budget: u32, rules: u8, o
     let sheet = parts(bytes)?;
     let mut terms = Terms::new();
     terms.read_all(&sheet)?;
-    let heard = sheet.heard.get(..cut as usize).ok_or(8u32)?;
+    let heard = sheet.heard.get(..2 * cut as usize).ok_or(8u32)?;
     if budget > 256 {
         return Err(9);
     }
     let (front, places) = out.get_mut(..FRONT + 40 * budget as usize).ok_or(10u32)?.split_at_mut(FRONT);
     let (goal, mut list) = (terms.heads[sheet.goal], [0; 512]);
     let start = start(&terms, heard, &mut list);
-    Ok(work::<BY_VALUE>(&mut terms, start, goal, rules, front, places.as_chunks_mut().0))
+    Ok(work::<BY_VALUE>(&mut terms, start, goal, rules, front, places))
 }
 
 // The state is lent to each term heard.
