@@ -2,7 +2,7 @@
 // A set's meaning is one natural number, `value` of its words (specs/Words.antt); the contracts speak of that number.
 ghost use mathlib.Core.Path.{_≡_};
 ghost use mathlib.Core.List.{_++_};
-ghost use Prim.Native.Nat.{ℕ, _+_, _*_, _/_, _%_, _<_, _^_};
+ghost use Prim.Native.Nat.{ℕ, _+_, _*_, _/_, _%_, _≤_, _<_, _^_};
 ghost use lib.Bits.{bitXor};
 ghost use lib.Count.{ones, trailingZeros};
 ghost use lib.Dec.{eqb, leb};
@@ -57,13 +57,28 @@ pub fn member(s: [u64; 4], e: u8) -> bool
     (nth(s, word_of(e)) >> bit_of(e)) % 2 == 1
 }
 
-// Exactly e.
+// Word k of a set of one entry, which has this bit in word w.
+fn word_with(bit: u64, w: u8, k: u8) -> u64
+    ensures { λ r. ⌜ r ≡ cond (eqb w k) bit 0 ⌝ }
+{
+    if w == k {
+        return bit;
+    }
+    0
+}
+
+// Exactly e: by tests and not by a store, so that the set stays in registers.
 pub fn singleton(e: u8) -> [u64; 4]
     ensures { λ r. ⌜ value r ≡ single e ⌝ }
 {
-    let mut r: [u64; 4] = [0, 0, 0, 0];
-    r[word_of(e) as usize] = 1 << bit_of(e);
-    r
+    let bit: u64 = 1 << bit_of(e);
+    let w = word_of(e);
+    [
+        word_with(bit, w, 0),
+        word_with(bit, w, 1),
+        word_with(bit, w, 2),
+        word_with(bit, w, 3),
+    ]
 }
 
 // The entries in exactly one of a and b: exclusive or, word by word.
@@ -208,6 +223,21 @@ pub fn count(s: [u64; 4]) -> u32
     u64::count_ones(s[0]) + u64::count_ones(s[1]) + u64::count_ones(s[2]) + u64::count_ones(s[3])
 }
 
+// Writes a word as eight bytes at a place, the lowest first.
+fn write_word(w: u64, out: &mut [u8], at: usize)
+    requires { ⌜ at + 8 ≤ length (now out) ⌝ }
+    ensures { λ _. ⌜ now (out .exit) ≡ take at (now (out .entry)) ++ (bytesOf 8 w ++ drop (at + 8) (now (out .entry))) ⌝ }
+{
+    out[at] = (w % 256) as u8;
+    out[at + 1] = ((w >> 8) % 256) as u8;
+    out[at + 2] = ((w >> 16) % 256) as u8;
+    out[at + 3] = ((w >> 24) % 256) as u8;
+    out[at + 4] = ((w >> 32) % 256) as u8;
+    out[at + 5] = ((w >> 40) % 256) as u8;
+    out[at + 6] = ((w >> 48) % 256) as u8;
+    out[at + 7] = ((w >> 56) % 256) as u8;
+}
+
 // Writes s as 32 bytes at the front of out, and answers true; where out is shorter, it writes nothing and answers false.
 pub fn write(s: [u64; 4], out: &mut [u8]) -> bool
     ensures fits { λ r. ⌜ r ≡ leb 32 (length (now (out .entry))) ⌝ }
@@ -216,12 +246,10 @@ pub fn write(s: [u64; 4], out: &mut [u8]) -> bool
     if out.len() < 32 {
         return false;
     }
-    let mut i: usize = 0;
-    while i < 32 {
-        let w = s[i / 8];
-        out[i] = ((w >> (i % 8 * 8)) % 256) as u8;
-        i += 1;
-    }
+    write_word(s[0], out, 0);
+    write_word(s[1], out, 8);
+    write_word(s[2], out, 16);
+    write_word(s[3], out, 24);
     true
 }
 

@@ -1,22 +1,23 @@
 -- Sets as bytes in the buffer's form.
--- Shown: how many bytes; which byte and bit a member is; what is written is read back; one byte more written or read; words from bytes.
+-- Shown: how many bytes; which byte and bit a member is; what is written is read back; a word, and four words in turn, written; one byte more read; words from bytes.
 -- Assumes nothing.
 use mathlib.Core.Path.{_≡_, refl, sym, ap, ap₂, _∙_}
 use mathlib.Core.Logic.{by-cases}
-use mathlib.Core.List.{List, [], _∷_, _++_}
+use mathlib.Core.List.{List, [], _∷_, _++_, append-assoc, append-nil}
 use Prim.Native.Nat.{ℕ, zero, suc, _+_, _-_, _*_, _/_, _%_, _^_, _≤_, _<_}
-use native.Mathlib.Nat.{add-comm, add-assoc, add-mul, zero-add, add-zero, suc-mul, zero-mul, mul-assoc, div-add-mod', mod-lt, mod-one, mul-one, div-div-eq-div-mul, le-trans, le-of-eq, lt-of-lt-of-le, lt-of-le-of-lt}
+use native.Mathlib.Nat.{add-comm, add-suc, add-assoc, add-mul, zero-add, add-zero, suc-mul, zero-mul, mul-assoc, div-add-mod', mod-lt, mod-one, div-one, mul-one, div-div-eq-div-mul, le-trans, le-of-eq, lt-of-lt-of-le, lt-of-le-of-lt}
 use native.Mathlib.Decide.{decLt}
-use native.Mathlib.Numerals.{add-one}
+use native.Mathlib.Numerals.{add-one, unary-clauses}
 use native.Mathlib.Omega.{arith}
 use lib.Arith.{digits-lt}
 use lib.Dec.{eqb}
 use lib.ListN.{length, getD, take, drop, set, length-append, length-drop, length-take, drop-of-length-le, List·getD-eq-default}
 use lib.Pow.{pow-pos, pow-add, pow-mono, mod-pow-add, mod-mod-pow, field}
-use lib.Seq.{drop-cons, set-at, append-snoc, getD-take, getD-drop, take-add, drop-drop, length-take-le}
+use lib.Seq.{sets, sets-eq, take-at, drop-at, drop-cons, getD-take, getD-drop, take-add, drop-drop, length-take-le}
 use Rattle.bitset.specs.Set.{member}
 use Rattle.bitset.specs.Words.{packed, value, setOf, byteOf, bytesOf}
-use Rattle.bitset.proofs.Laws.Words.{Below}
+use Rattle.bitset.proofs.Laws.Place.{place-only}
+use Rattle.bitset.proofs.Laws.Words.{Below, value-byte}
 
 pub length-bytesOf : (n s : ℕ) → length (bytesOf n s) ≡ n
 unfolding bytesOf
@@ -68,22 +69,56 @@ setOf-bytesOf (suc n) s =
     ∙ sym (mod-pow-add s 8 (n * 8))
     ∙ ap (λ (x : ℕ). s % 2 ^ x) (add-comm 8 (n * 8) ∙ sym (suc-mul n 8))
 
--- one byte more of a set at the front of a buffer
-pub bytes-more : (n s : ℕ) (d d′ : List ℕ) → d′ ≡ bytesOf n s ++ drop n d → n < length d → set d′ n (byteOf s n) ≡ bytesOf (n + 1) s ++ drop (n + 1) d
-unfolding bytesOf
-bytes-more n s d d′ e l =
-    ap (λ (x : List ℕ). set x n (byteOf s n)) (e ∙ ap (λ (x : List ℕ). bytesOf n s ++ x) (drop-cons d n 0 l))
-    ∙ set-at (bytesOf n s) (getD d n 0) (drop (suc n) d) (byteOf s n) n (length-bytesOf n s)
-    ∙ sym (append-snoc (bytesOf n s) (byteOf s n) (drop (suc n) d))
-    ∙ ap (λ (x : ℕ). bytesOf x s ++ drop x d) (sym (add-one n))
+-- eight bytes of a word stored at a place
+module _ (d : List ℕ) (at w : ℕ) (h : at + 8 ≤ length d) where
+  abbrev bytes : List ℕ
+  bytes = w % 2 ^ 8 ∷ byteOf w 1 ∷ byteOf w 2 ∷ byteOf w 3 ∷ byteOf w 4 ∷ byteOf w 5 ∷ byteOf w 6 ∷ byteOf w 7 ∷ []
 
--- a buffer whose front was written keeps its length
-pub bytes-length : (n s : ℕ) (d : List ℕ) → n ≤ length d → length (bytesOf n s ++ drop n d) ≡ length d
-bytes-length n s d h = go (length-append (bytesOf n s) (drop n d)) (length-bytesOf n s) (length-drop n d)
-  where
-    go : length (bytesOf n s ++ drop n d) ≡ length (bytesOf n s) + length (drop n d) → length (bytesOf n s) ≡ n → length (drop n d) ≡ length d - n
-        → length (bytesOf n s ++ drop n d) ≡ length d
-    go p q r = omega arith
+  bytes-of : bytes ≡ bytesOf 8 w
+  unfolding bytesOf byteOf
+  bytes-of = ap (λ (x : ℕ). x % 2 ^ 8 ∷ byteOf w 1 ∷ byteOf w 2 ∷ byteOf w 3 ∷ byteOf w 4 ∷ byteOf w 5 ∷ byteOf w 6 ∷ byteOf w 7 ∷ []) (sym (div-one w))
+
+  abbrev stores : List ℕ
+  stores =
+      set (set (set (set (set (set (set (set d at (w % 2 ^ 8)) (at + 1) (byteOf w 1)) (at + 2) (byteOf w 2)) (at + 3) (byteOf w 3)) (at + 4) (byteOf w 4)) (at + 5) (byteOf w 5))
+      (at + 6) (byteOf w 6)) (at + 7) (byteOf w 7)
+
+  in-a-row : stores ≡ sets d at bytes
+  in-a-row = simp unary-clauses refl
+
+  pub word-stored : stores ≡ take at d ++ (bytesOf 8 w ++ drop (at + 8) d)
+  word-stored = in-a-row ∙ sets-eq bytes d at h ∙ append-assoc (take at d) bytes (drop (at + 8) d) ∙ ap (λ (l : List ℕ). take at d ++ (l ++ drop (at + 8) d)) bytes-of
+
+-- the bytes of the first words, and of one word more
+module _ (ws : List ℕ) (h : Below 64 ws) where
+  bytes-word : (q k : ℕ) → k ≤ 8 → bytesOf (q * 8 + k) (value ws) ≡ bytesOf (q * 8) (value ws) ++ bytesOf k (getD ws q 0)
+  unfolding bytesOf byteOf
+  bytes-word q zero l = ap (λ (n : ℕ). bytesOf n (value ws)) (add-zero (q * 8)) ∙ sym (append-nil (bytesOf (q * 8) (value ws)))
+  bytes-word q (suc k) l =
+      ap (λ (n : ℕ). bytesOf n (value ws)) (add-suc (q * 8) k)
+      ∙ ap₂ (λ (a : List ℕ) (b : ℕ). a ++ (b ∷ [])) (bytes-word q k (omega arith)) (value-byte ws h (q * 8 + k) ∙ ap₂ (λ (a b : ℕ). getD ws a 0 / 2 ^ (b * 8) % 2 ^ 8) (place .0) (place .1))
+      ∙ append-assoc (bytesOf (q * 8) (value ws)) (bytesOf k (getD ws q 0)) (byteOf (getD ws q 0) k ∷ [])
+    where
+      place : ((q * 8 + k) / 8 ≡ q) × ((q * 8 + k) % 8 ≡ k)
+      place = let p = place-only 3 (q * 8 + k) q k (omega arith) refl in (sym (p .0), sym (p .1))
+
+  -- one word more of a set at the front of a buffer
+  front-more : (q : ℕ) (d d′ : List ℕ) → d′ ≡ bytesOf (q * 8) (value ws) ++ drop (q * 8) d
+      → take (q * 8) d′ ++ (bytesOf 8 (getD ws q 0) ++ drop (q * 8 + 8) d′) ≡ bytesOf (q * 8 + 8) (value ws) ++ drop (q * 8 + 8) d
+  front-more q d d′ e =
+      let first = bytesOf (q * 8) (value ws) in
+      let n = length-bytesOf (q * 8) (value ws) in
+      ap (λ (l : List ℕ). take (q * 8) l ++ (bytesOf 8 (getD ws q 0) ++ drop (q * 8 + 8) l)) e
+      ∙ ap₂ (λ (a b : List ℕ). a ++ (bytesOf 8 (getD ws q 0) ++ b)) (take-at first (drop (q * 8) d) (q * 8) n)
+      (sym (drop-drop 8 (q * 8) (first ++ drop (q * 8) d)) ∙ ap (drop 8) (drop-at first (drop (q * 8) d) (q * 8) n) ∙ drop-drop 8 (q * 8) d)
+      ∙ sym (append-assoc first (bytesOf 8 (getD ws q 0)) (drop (q * 8 + 8) d))
+      ∙ ap (λ (l : List ℕ). l ++ drop (q * 8 + 8) d) (sym (bytes-word q 8 (omega arith)))
+
+  -- four words in turn
+  pub front-four : (d : List ℕ) {d₁ d₂ d₃ d₄ : List ℕ} → d₁ ≡ take 0 d ++ (bytesOf 8 (getD ws 0 0) ++ drop 8 d) → d₂ ≡ take 8 d₁ ++ (bytesOf 8 (getD ws 1 0) ++ drop 16 d₁)
+      → d₃ ≡ take 16 d₂ ++ (bytesOf 8 (getD ws 2 0) ++ drop 24 d₂) → d₄ ≡ take 24 d₃ ++ (bytesOf 8 (getD ws 3 0) ++ drop 32 d₃) → d₄ ≡ bytesOf 32 (value ws) ++ drop 32 d
+  unfolding bytesOf
+  front-four d {d₁} {d₂} {d₃} p₁ p₂ p₃ p₄ = p₄ ∙ front-more 3 d d₃ (p₃ ∙ front-more 2 d d₂ (p₂ ∙ front-more 1 d d₁ (p₁ ∙ front-more 0 d d refl)))
 
 -- a part of a list of small digits
 below-drop : (k : ℕ) (l : List ℕ) → Below k l → (n : ℕ) → Below k (drop n l)

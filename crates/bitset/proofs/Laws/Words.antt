@@ -2,9 +2,9 @@
 -- Shown: a part of at most 64 bits that lies in one word is that word's; so are members and bytes; the sum is word by word; a list is
 -- known by its value; a word set among zeros; the leading entry and the count of members. Assumes nothing.
 use mathlib.Core.Path.{_≡_, refl, sym, ap, ap₂, _∙_}
-use mathlib.Core.Bool.{false}
+use mathlib.Core.Bool.{false, cond}
 use mathlib.Core.Logic.{by-cases}
-use mathlib.Core.List.{List, [], _∷_}
+use mathlib.Core.List.{List, [], _∷_, _++_}
 use Prim.Native.Nat.{ℕ, zero, suc, _+_, _-_, _*_, _/_, _%_, _^_, _≤_, _<_}
 use native.Mathlib.Nat.{zero-div, suc-mul, zero-mul, zero-add, mul-assoc, div-div-eq-div-mul, mul-add-mod-self-right, add-comm, add-mul, one-mul, mod-eq-of-lt, mul-le-mul-right, le-of-suc-le-suc, le-trans, le-of-eq, le-add-right, lt-of-lt-of-le, suc-add, div-add-mod', mod-lt}
 use native.Mathlib.Decide.{ℕ-discrete}
@@ -142,11 +142,22 @@ zeros (suc (suc zero)) = refl
 zeros (suc (suc (suc zero))) = refl
 zeros (suc (suc (suc (suc q)))) = refl
 
+-- a word among words of zeros
+word-among : (w x : ℕ) → w < 4 → (cond (eqb w 0) x 0 ∷ cond (eqb w 1) x 0 ∷ cond (eqb w 2) x 0 ∷ cond (eqb w 3) x 0 ∷ []) ≡ set (0 ∷ 0 ∷ 0 ∷ 0 ∷ []) w x
+word-among zero x l = refl
+word-among (suc zero) x l = refl
+word-among (suc (suc zero)) x l = refl
+word-among (suc (suc (suc zero))) x l = refl
+word-among (suc (suc (suc (suc w)))) x l = absurd (omega arith)
+
 -- one bit among four words of zeros
-pub value-single : (w b : ℕ) → w < 4 → b < 64 → value (set (0 ∷ 0 ∷ 0 ∷ 0 ∷ []) w (1 * 2 ^ b % 2 ^ 64)) ≡ 2 ^ (w * 64 + b)
+pub value-single : (w b : ℕ) → w < 4 → b < 64 → (x₀ x₁ x₂ x₃ : ℕ) → x₀ ≡ cond (eqb w 0) (1 * 2 ^ b % 2 ^ 64) 0 → x₁ ≡ cond (eqb w 1) (1 * 2 ^ b % 2 ^ 64) 0
+    → x₂ ≡ cond (eqb w 2) (1 * 2 ^ b % 2 ^ 64) 0 → x₃ ≡ cond (eqb w 3) (1 * 2 ^ b % 2 ^ 64) 0 → value (x₀ ∷ x₁ ∷ x₂ ∷ x₃ ∷ []) ≡ 2 ^ (w * 64 + b)
 unfolding packed
-value-single w b l m =
-    ap (λ (x : ℕ). value (set (0 ∷ 0 ∷ 0 ∷ 0 ∷ []) w x)) (exact ∙ ap (λ (x : ℕ). x + 2 ^ b) (sym (zeros w)))
+value-single w b l m x₀ x₁ x₂ x₃ p₀ p₁ p₂ p₃ =
+    ap₂ (λ (y z : List ℕ). value (y ++ z)) (ap₂ (λ (y z : ℕ). y ∷ z ∷ []) p₀ p₁) (ap₂ (λ (y z : ℕ). y ∷ z ∷ []) p₂ p₃)
+    ∙ ap value (word-among w (1 * 2 ^ b % 2 ^ 64) l)
+    ∙ ap (λ (x : ℕ). value (set (0 ∷ 0 ∷ 0 ∷ 0 ∷ []) w x)) (exact ∙ ap (λ (x : ℕ). x + 2 ^ b) (sym (zeros w)))
     ∙ packed-add 64 (0 ∷ 0 ∷ 0 ∷ 0 ∷ []) w (2 ^ b) l
     ∙ zero-add (2 ^ b * 2 ^ (w * 64))
     ∙ sym (pow-add 2 b (w * 64))
