@@ -1,7 +1,8 @@
--- What the inner functions that decide hand back. Defined: `reducedOf`, what is left of a set; `isUnderivable`; `Decided`, the verdict on a good sheet.
+-- What the inner functions that decide hand back. Defined: `reducedOf`, what is left of a set; `isUnderivable`, is the goal out
+-- of reach; `missingIn`, what is missing by a line; `Decided`, the verdict on a good sheet.
 use Prim.Native.Nat.{ℕ, _+_, _*_}
 use mathlib.Core.Path.{_≡_}
-use mathlib.Core.Bool.{Bool, true, false}
+use mathlib.Core.Bool.{Bool, true, false, cond}
 use mathlib.Core.List.{List, _++_}
 use lib.ListN.{length, drop}
 use Rattle.deduction.specs.Setting.{Setting}
@@ -22,6 +23,10 @@ unfoldable pub isUnderivable : Verdict → Bool
 isUnderivable derivable = false
 isUnderivable underivable = true
 isUnderivable exhausted = false
+
+-- what is missing of an entry with this line and the set v: the line, or without the sum rule the set itself
+unfoldable pub missingIn : Setting → Reduced → ℕ → Reduced
+missingIn on line v = cond (on 6) line (record { remainder = v; used = 0 })
 
 -- the outcome of the run, and the buffer after it
 pub record Decided (on : Setting) (s : List ℕ) (cut budget : ℕ) (out out′ : List ℕ) (r : Ended) : Type 0 where
