@@ -71,13 +71,6 @@ module _ (on : Setting) (s : List ℕ) (cut budget : ℕ) where
     count : r .made ≡ length (outcomeOf on s cut budget .steps)
     count = ran .count ∙ ap length steps
 
-    -- the buffer keeps room for its front
-    pub long : front ≤ length out → front ≤ length out′
-    long space = le-trans (le-of-eq (sym (length-take-le front out space))) (at-least (take front out) _ out′ (ran .bytes))
-      where
-        at-least : (a b l : List ℕ) → l ≡ a ++ b → length a ≤ length l
-        at-least a b l p = omega (arith, ap length p ∙ length-append a b)
-
     module _ (right : (i : ℕ) → i < countOf s → getD reps i 0 ≡ repAt (entryAt s) i) (within : goalOf s < countOf s) where
       -- the line of the goal's head is what the rows at the end leave of the goal's set
       goal-line : lineAt rs us (repAt (entryAt s) (goalOf s)) ≡ reduce (knowledge (entryAt s) (outcomeOf on s cut budget .learnt) .rows) (setAt (entryAt s) (goalOf s))
