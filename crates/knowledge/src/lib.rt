@@ -1,5 +1,6 @@
 // What the intruder knows: a set of representatives, and a basis of rows over the field of two elements.
-// Each contract is an equation with the elimination that `deduction` defines (its specs/Elimination.antt).
+// The contracts say what is stored, for whatever remainder is given. Laws/Learn.antt among the proofs shows that with the right one this is the elimination that
+// `deduction` defines (its specs/Elimination.antt).
 ghost use mathlib.Core.Path.{_≡_};
 ghost use mathlib.Core.Bool.{true};
 ghost use Prim.Native.Nat.{_+_, _≤_};
@@ -8,7 +9,7 @@ ghost use Rattle.bitset.specs.Set.{member};
 ghost use Rattle.bitset.specs.Words.{value};
 ghost use Rattle.deduction.specs.Elimination.{nothing};
 ghost use Rattle.knowledge.specs.Inner.Words.{wordsAt, SameOutside};
-ghost use Rattle.knowledge.specs.Inner.State.{Room, Holds, Hears};
+ghost use Rattle.knowledge.specs.Inner.State.{Room, Holds, Heard};
 
 pub mod lines;
 
@@ -46,12 +47,12 @@ impl Knowledge {
         }
     }
 
-    // "Hearing a term takes the listener's state and hands the enlarged one back": learns the representative e. It joins the known set, and what the
-    // rows leave of its set, if anything, becomes a row. Of a known one nothing is left.
+    // "Hearing a term takes the listener's state and hands the enlarged one back": the representative e joins the known set, and its
+    // remainder, what the rows leave of its set, becomes a row unless it is empty. Of a known one nothing is left.
     pub fn hear(mut self, e: u8, remainder: [u64; 4]) -> Self
         requires { ⌜ Room (self .known) (self .len) ⌝ }
         requires { ⌜ (member (value (self .known)) e ≡ true → value remainder ≡ 0) ⌝ }
-        ensures state { λ r. ⌜ Hears e (value remainder) (self .known) (self .rows) (self .len) (r .known) (r .rows) (r .len) ⌝ }
+        ensures state { λ r. ⌜ Heard e (value remainder) (self .known) (self .rows) (self .len) (r .known) (r .rows) (r .len) ⌝ }
         ensures room { λ r. ⌜ Room (r .known) (r .len) ⌝ }
     {
         let known = self.known;

@@ -1,15 +1,14 @@
 // The bytes of the output buffer before its first step: the known set, and what is missing of a goal that is out of reach.
 ghost use mathlib.Core.Path.{_≡_};
-ghost use mathlib.Core.List.{List, _++_};
+ghost use mathlib.Core.List.{_++_};
 ghost use Prim.Native.Nat.{_≤_};
 ghost use lib.ListN.{length, drop};
 ghost use Rattle.bitset.specs.Words.{value};
 ghost use Rattle.deduction.specs.Setting.{switches};
-ghost use Rattle.deduction.specs.Elimination.{Row, reduce};
 ghost use Rattle.derive.specs.Inner.Ran.{verdictOf};
 ghost use Rattle.verdict.specs.Buffer.{front};
-ghost use Rattle.verdict.specs.Answer.{missingAs, missingBy, frontBytes};
-ghost use Rattle.verdict.specs.Inner.Decide.{isUnderivable, reducedOf};
+ghost use Rattle.verdict.specs.Answer.{missingAs, frontBytes};
+ghost use Rattle.verdict.specs.Inner.Decide.{isUnderivable, reducedOf, missingIn};
 use derive::rules;
 use derive::run::Verdict;
 
@@ -35,7 +34,7 @@ fn is_underivable(verdict: Verdict) -> bool
 
 // What is missing of an entry with this set and this line: the line. Without the sum rule it is the set itself.
 fn missing_by(rules: u8, line: Reduced, set: [u64; 4]) -> Reduced
-    ensures { λ r. ⌜ ((rows : List Row) → reducedOf (line .remainder) (line .used) ≡ reduce rows (value set) → reducedOf (r .remainder) (r .used) ≡ missingBy (switches rules) rows (value set)) ⌝ }
+    ensures { λ r. ⌜ reducedOf (r .remainder) (r .used) ≡ missingIn (switches rules) (reducedOf (line .remainder) (line .used)) (value set) ⌝ }
 {
     if rules::is_on(rules, 6) {
         return line;
@@ -46,9 +45,9 @@ fn missing_by(rules: u8, line: Reduced, set: [u64; 4]) -> Reduced
     }
 }
 
-// What is missing of the goal, whose set is goal, at out of reach. Nothing is missing at the other verdicts.
+// What is missing of the goal, with this line and the set goal, at out of reach. Nothing is missing at the other verdicts.
 pub fn missing(verdict: Verdict, rules: u8, line: Reduced, goal: [u64; 4]) -> Reduced
-    ensures { λ r. ⌜ ((rows : List Row) → reducedOf (line .remainder) (line .used) ≡ reduce rows (value goal) → reducedOf (r .remainder) (r .used) ≡ missingAs (verdictOf verdict) (missingBy (switches rules) rows (value goal))) ⌝ }
+    ensures { λ r. ⌜ reducedOf (r .remainder) (r .used) ≡ missingAs (verdictOf verdict) (missingIn (switches rules) (reducedOf (line .remainder) (line .used)) (value goal)) ⌝ }
 {
     if is_underivable(verdict) {
         return missing_by(rules, line, goal);

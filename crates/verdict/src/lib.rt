@@ -1,6 +1,6 @@
 // The verdict: can an intruder who knows the public atoms and heard the messages before the cut derive the goal?
 ghost use mathlib.Core.Path.{_≡_};
-ghost use Prim.Native.Nat.{_+_, _*_, _≤_};
+ghost use Prim.Native.Nat.{ℕ, _+_, _*_, _≤_};
 ghost use lib.ListN.{length};
 ghost use Rattle.deduction.specs.Setting.{every, switches};
 ghost use Rattle.dag.specs.Sheet.{traceLength};
@@ -13,7 +13,8 @@ ghost use Rattle.verdict.specs.Agrees.{Agrees};
 ghost use Rattle.verdict.specs.Answer.{answerOf, bufferOf};
 ghost use Rattle.verdict.specs.Code.{numberOf, madeIn};
 ghost use Rattle.knowledge.specs.Inner.Lines.{lineAt};
-ghost use Rattle.verdict.specs.Inner.Decide.{reducedOf, Decided};
+ghost use Rattle.derive.specs.Inner.Ran.{Ready};
+ghost use Rattle.verdict.specs.Inner.Decide.{reducedOf, SetsOf, AtStart, Decided};
 use dag::Refusal;
 use dag::sheet;
 use derive::rules;
@@ -50,7 +51,48 @@ fn line_of(remainders: &[[u64; 4]; 256], used: &[[u64; 4]; 256], k: u8) -> Reduc
     }
 }
 
-// The verdict on a good sheet by the rules switched on, with the steps and what stands before them written to out.
+// The run by the rules switched on, from a known set and the lines by it. Its steps, and what stands before them, are written to out.
+fn run_from(
+    s: &[u8],
+    keys: &[u64; 256],
+    sets: &[[u64; 4]; 256],
+    reps: &[u8; 256],
+    known: [u64; 4],
+    remainders: &mut [[u64; 4]; 256],
+    used: &mut [[u64; 4]; 256],
+    columns: &mut [[u64; 4]; 256],
+    empty: &mut [u64; 4],
+    budget: u16,
+    rules: u8,
+    out: &mut [u8],
+) -> Ended
+    requires { ⌜ Ready (now s) (now keys) (now reps) (now remainders) (now used) (now columns) (now empty) budget front (now out) × SetsOf (now s) (now sets) ⌝ }
+    ensures { λ r. ⌜ ((cut : ℕ) → AtStart (now (s .entry)) cut (now (reps .entry)) known (now (remainders .entry)) (now (used .entry)) (now (columns .entry)) (now (empty .entry)) → Decided (switches rules) (now (s .entry)) cut budget (now (out .entry)) (now (out .exit)) r) ⌝ }
+{
+    let ended = derive::run::run(
+        s,
+        keys,
+        reps,
+        known,
+        remainders,
+        used,
+        columns,
+        empty,
+        budget,
+        rules,
+        FRONT,
+        out,
+    );
+    let verdict = ended.verdict;
+    let gained = ended.known;
+    let goal = sheet::goal(s) as usize;
+    let line = line_of(remainders, used, reps[goal]);
+    let missing = front::missing(verdict, rules, line, sets[goal]);
+    front::write_front(gained, missing, out);
+    ended
+}
+
+// The verdict on a good sheet by the rules switched on: its tables, and what is known at the start, from where the run goes on.
 fn decide(s: &[u8], cut: u16, budget: u16, rules: u8, out: &mut [u8]) -> Ended
     requires { ⌜ (refusal (now s) ≡ 0) × (cut ≤ traceLength (now s)) × (budget ≤ 256) × (front + 40 * budget ≤ length (now out)) ⌝ }
     ensures { λ r. ⌜ Decided (switches rules) (now (s .entry)) cut budget (now (out .entry)) (now (out .exit)) r ⌝ }
@@ -74,9 +116,10 @@ fn decide(s: &[u8], cut: u16, budget: u16, rules: u8, out: &mut [u8]) -> Ended
         &mut empty,
     );
     let known = start.known;
-    let ended = derive::run::run(
+    run_from(
         s,
         &keys,
+        &sets,
         &reps,
         known,
         &mut remainders,
@@ -85,16 +128,8 @@ fn decide(s: &[u8], cut: u16, budget: u16, rules: u8, out: &mut [u8]) -> Ended
         &mut empty,
         budget,
         rules,
-        FRONT,
         out,
-    );
-    let verdict = ended.verdict;
-    let gained = ended.known;
-    let goal = sheet::goal(s) as usize;
-    let line = line_of(&remainders, &used, reps[goal]);
-    let missing = front::missing(verdict, rules, line, sets[goal]);
-    front::write_front(gained, missing, out);
-    ended
+    )
 }
 
 // The answer to a call that isn't refused.

@@ -1,14 +1,14 @@
 -- Learning an entry, by its ways, and the room for its row. Assumes nothing.
-use mathlib.Core.Path.{_≡_, refl, sym, ap, ap₂, _∙_}
+use mathlib.Core.Path.{_≡_, refl, sym, ap, ap₂, _∙_, subst}
 use mathlib.Core.Bool.{Bool, true, false, cond}
-use mathlib.Core.List.{List, [], _∷_, _++_, map}
+use mathlib.Core.List.{List, [], _∷_, _++_, map, append-nil}
 use Prim.Native.Nat.{ℕ, _+_, _*_, _≤_, _<_}
 use native.Mathlib.Omega.{arith}
 use lib.Bits.{bitXor}
 use lib.Count.{ones, ones-le}
 use lib.Dec.{eqb}
 use lib.ListN.{length}
-use borrow.Author.Tests.{eq-eqb}
+use borrow.Author.Tests.{eqb-true, eq-eqb}
 use Rattle.bitset.specs.Set.{member, insert, single}
 use Rattle.bitset.specs.Words.{value}
 use Rattle.bitset.proofs.Laws.Words.{Below}
@@ -16,7 +16,8 @@ use Rattle.bitset.proofs.Laws.Bytes.{packed-lt}
 use Rattle.bitset.proofs.Laws.Sums.{ones-insert}
 use Rattle.deduction.specs.Elimination.{Row, Knowledge, reduce, addRow, nothing, learnAs}
 use Rattle.knowledge.specs.Inner.Words.{wordsAt, vectorsOf, SameOutside}
-use Rattle.knowledge.specs.Inner.State.{Room, Holds}
+use Rattle.knowledge.specs.Inner.State.{Room, Holds, Heard}
+use Rattle.knowledge.proofs.Laws.Store.{same-refl}
 use Rattle.knowledge.proofs.Laws.Vectors.{vectors-more, vectors-kept}
 
 -- an empty set and no row are the state in which nothing is known
@@ -61,24 +62,38 @@ vectors-append : (rows : List Row) (r : Row) → map (λ (x : Row). x .vector) (
 vectors-append [] r = refl
 vectors-append (x ∷ rows) r = ap (λ (l : List ℕ). x .vector ∷ l) (vectors-append rows r)
 
--- the words after learning e, whose set is v
-module _ (k : Knowledge) (e v : ℕ) (known ws : List ℕ) (len : ℕ) (h : Holds k known ws len) (old : member (k .known) e ≡ true → reduce (k .rows) v .remainder ≡ 0)
-    (more : List ℕ) (q : value more ≡ insert (value known) e) where
-  set-after : value more ≡ learnAs k e v .known
-  set-after = q ∙ ap (λ (x : ℕ). insert x e) (h .known) ∙ sym (learn-known k e v)
-
-  -- a sum of known ones: no row is added
-  pub holds-sum : reduce (k .rows) v .remainder ≡ 0 → Holds (learnAs k e v) more ws len
-  holds-sum z = record { known = set-after; rows = h .rows ∙ ap (map (λ (x : Row). x .vector)) (sym (learn-rows k e v old ∙ add-none (k .rows) e v z)) }
-
-  -- another entry: its row is stored behind the others
-  pub holds-row : (vs : List ℕ) → eqb (reduce (k .rows) v .remainder) 0 ≡ false → SameOutside (4 * len) (4 * len + 4) ws vs → value (wordsAt vs (4 * len)) ≡ reduce (k .rows) v .remainder
-      → Holds (learnAs k e v) more vs (len + 1)
-  holds-row vs z kept own = record {
-    known = set-after;
-    rows = vectors-more vs len ∙ ap₂ (λ (l : List ℕ) (x : ℕ). l ++ (x ∷ [])) (vectors-kept len (omega arith) kept ∙ h .rows) own
-        ∙ sym (vectors-append (k .rows) _) ∙ ap (map (λ (x : Row). x .vector)) (sym (learn-rows k e v old ∙ add-one-row (k .rows) e v z));
+-- what is stored where nothing is left of an entry, and where something is
+module _ (e remainder : ℕ) (known ws : List ℕ) (len : ℕ) (more : List ℕ) (q : value more ≡ insert (value known) e) where
+  pub heard-none : eqb remainder 0 ≡ true → Heard e remainder known ws len more ws len
+  heard-none z = record {
+    known = q;
+    count = rw z;
+    rows = rw z (sym (append-nil (vectorsOf ws len)));
+    others = same-refl (4 * len) (4 * len) ws;
   }
+
+  pub heard-row : (vs : List ℕ) → eqb remainder 0 ≡ false → SameOutside (4 * len) (4 * len + 4) ws vs → value (wordsAt vs (4 * len)) ≡ remainder → Heard e remainder known ws len more vs (len + 1)
+  heard-row vs z kept own = record {
+    known = q;
+    count = rw z;
+    rows = rw z (vectors-more vs len ∙ ap₂ (λ (l : List ℕ) (x : ℕ). l ++ (x ∷ [])) (vectors-kept len (omega arith) kept) own);
+    others = subst (λ (n : ℕ). SameOutside (4 * len) n ws vs) (omega arith) kept;
+  }
+
+-- with the remainder that the rows leave of e's set v, the words hold the state with e learnt
+pub heard-holds : (k : Knowledge) (v : ℕ) {e remainder : ℕ} {g ws : List ℕ} {len : ℕ} {g′ ws′ : List ℕ} {len′ : ℕ} → Heard e remainder g ws len g′ ws′ len′ → Holds k g ws len
+    → remainder ≡ reduce (k .rows) v .remainder → (member (value g) e ≡ true → remainder ≡ 0) → Holds (learnAs k e v) g′ ws′ len′
+heard-holds k v {e} {remainder} {g} {ws} {len} {g′} {ws′} {len′} h holds p old = record {
+  known = h .known ∙ ap (λ (x : ℕ). insert x e) (holds .known) ∙ sym (learn-known k e v);
+  rows = h .rows ∙ ap (λ (l : List ℕ). l ++ cond (eqb remainder 0) [] (remainder ∷ [])) (holds .rows) ∙ go (eqb remainder 0) refl
+      ∙ ap (map (λ (x : Row). x .vector)) (sym (learn-rows k e v (λ m. sym p ∙ old (ap (λ (x : ℕ). member x e) (holds .known) ∙ m))));
+}
+  where
+    go : (b : Bool) → eqb remainder 0 ≡ b → map (λ (x : Row). x .vector) (k .rows) ++ cond b [] (remainder ∷ []) ≡ map (λ (x : Row). x .vector) (addRow (k .rows) e (reduce (k .rows) v))
+    go true z = append-nil (map (λ (x : Row). x .vector) (k .rows)) ∙ ap (map (λ (x : Row). x .vector)) (sym (add-none (k .rows) e v (sym p ∙ eqb-true remainder 0 z)))
+    go false z =
+        ap (λ (x : ℕ). map (λ (x : Row). x .vector) (k .rows) ++ (x ∷ [])) p ∙ sym (vectors-append (k .rows) _)
+        ∙ ap (map (λ (x : Row). x .vector)) (sym (add-one-row (k .rows) e v (ap (λ (x : ℕ). eqb x 0) (sym p) ∙ z)))
 
 -- a set of four words has at most 256 members
 ones-words : (ws : List ℕ) → length ws ≡ 4 → Below 64 ws → ones (value ws) ≤ 256

@@ -1,4 +1,4 @@
--- `start::drop_repeats` meets its contract. The loop's invariant: what is kept of the first k places teaches what they teach.
+-- `start::drop_repeats` meets its contract. The loop's invariant: the list begins with its first k places without repeats.
 use mathlib.Core.Path.{_≡_, sym, ap, _∙_}
 use Prim.Native.Nat.{ℕ, _-_, _≤_}
 use native.Mathlib.Omega.{arith}
@@ -26,7 +26,7 @@ loop-holds c = let s = c .before in
     (omega arith, without-none (now (s .args .list)) (c .empty .result) (s .pre .0) (record { four = search needs; below = λ i. let f : Fits w64 (getD (c .empty .result) i 0) = search needs in f .fits }) (c .empty .ensures))
 
 keep-new-requires : tie.Need-keep-new-requires Inv-loop μ-loop
-keep-new-requires c κs = let l = c .before .before .before .loop in let s = c .before .before .before .before .before in (l .inv .1 .room, omega (arith, s .pre .1), l .inv .1 .few, l .inv .1 .words)
+keep-new-requires c κs = let l = c .before .before .before .loop in let s = c .before .before .before .before .before in (l .inv .1 .room, omega (arith, s .pre .1), omega (arith, l .inv .1 .few), l .inv .1 .words)
 
 add-k : tie.Need-add-k Inv-loop μ-loop
 add-k c = search needs
@@ -36,7 +36,7 @@ loop-less c = search needs
 
 loop-again : tie.Need-loop-again Inv-loop μ-loop
 loop-again c = let l = c .before .before .before .before .loop in let s = c .before .before .before .before .before .before in
-    (omega (arith, c .before .before .before .loop-test .taken), without-more (now (s .args .list)) (s .pre .0) (l .k) (omega (arith, s .pre .1)) (l .list) (l .seen) (l .end) (l .inv .1) _ _ _ (c .keep-new .ensures))
+    (omega (arith, c .before .before .before .loop-test .taken), without-more (now (s .args .list)) (l .k) (omega (arith, s .pre .1)) (l .list) (l .seen) (l .end) (l .inv .1) _ _ _ _ (c .keep-new .ensures) (omega arith))
 
 returns : tie.Need-returns Inv-loop μ-loop
 returns c = without-all (omega (arith, c .before .loop .inv .0, c .loop-test .left)) (c .before .loop .inv .1)

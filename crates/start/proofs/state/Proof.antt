@@ -17,6 +17,7 @@ use Rattle.knowledge.specs.Inner.Lines.{Kept, headIn, Begun}
 use Rattle.knowledge.proofs.Laws.Lines.{kept-begun}
 use Rattle.start.specs.Start.{startHeads}
 use Rattle.start.proofs.Laws.Heads.{start-listed, heads-live}
+use Rattle.start.proofs.Laws.Repeats.{dropped-taught, dropped-live}
 use borrow.Author.Needs.{needs}
 use Rattle.start.proofs.state.Statement.{statement}
 use Rattle.start.proofs.state.Tie as tie
@@ -86,14 +87,14 @@ hear-requires c κs = let d = c .before .before .before .before .before in let t
       within = omega (arith, d .drop-repeats .ensures .few, len-few t);
       live = headIn (now (s .args .reps)) (countOf (now (s .args .s)));
       sets = setAt (entryAt (now (s .args .s)));
-      lives = d .drop-repeats .ensures .among (headIn (now (s .args .reps)) (countOf (now (s .args .s)))) (live t);
+      lives = dropped-live (len-few t) (d .drop-repeats .ensures) (headIn (now (s .args .reps)) (countOf (now (s .args .s)))) (live t);
       kept = kept (c .before .before .before .before .before .before .before .before .before .before .before);
     }
 
 returns : tie.Need-returns
 returns c = let d = c .before .before .before .before .before .before in let t = c .before .before .before .before .before .before .before .before in let s = c .before .before .before .before .before .before .before .before .before .before .before .before .before .before .before .before .before .before in let e = entryAt (now (s .args .s)) in
-    let h = c .hear .ensures (headIn (now (s .args .reps)) (countOf (now (s .args .s)))) (setAt e) (d .drop-repeats .ensures .among (headIn (now (s .args .reps)) (countOf (now (s .args .s)))) (live t)) (kept (c .before .before .before .before .before .before .before .before .before .before .before .before)) in
-    let same = d .drop-repeats .ensures .heads (setAt e) ∙ taught t in
+    let h = c .hear .ensures (headIn (now (s .args .reps)) (countOf (now (s .args .s)))) (setAt e) (dropped-live (len-few t) (d .drop-repeats .ensures) (headIn (now (s .args .reps)) (countOf (now (s .args .s)))) (live t)) (kept (c .before .before .before .before .before .before .before .before .before .before .before .before)) in
+    let same = dropped-taught (len-few t) (d .drop-repeats .ensures) (t .trace-heads .ensures .1 .1) (setAt e) ∙ taught t in
     (holds-same same (h .state), kept-rows same (h .kept))
 
 pub state-spec : {M : Type 1} → statement M

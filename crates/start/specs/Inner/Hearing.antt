@@ -1,10 +1,12 @@
 -- Heads heard one by one.
--- Defined: `KeptNew` and `Dropped`, a list without repeats; `Held`, what holds after some heads; `Hearable`, what hearing more of them needs, and `Hears`, what it
--- does; `Hearing` and `HeldAll`, the same for the first heads of a list, from nothing; `fourFrom`, four of them.
-use Prim.Native.Nat.{ℕ, _+_, _≤_, _<_}
+-- Defined: `stands`, does a number stand in a list; `firsts`, the first numbers of a list without repeats; `KeptNew`, one place of a list kept or dropped; `Dropped`, the
+-- repeats among its first places dropped; `Held`, what holds after some heads; `Hearable`, what hearing more of them needs, and `Hears`, what it does; `fourFrom`, four
+-- heads of a list; `Hearing` and `HeldAll`, need and promise for the first heads of a list, from nothing.
+use Prim.Native.Nat.{ℕ, zero, suc, _+_, _≤_, _<_}
 use mathlib.Core.Path.{_≡_}
-use mathlib.Core.Bool.{Bool, true, false}
+use mathlib.Core.Bool.{Bool, true, false, _||_, cond}
 use mathlib.Core.List.{List, [], _∷_, _++_, List·Memᴰ}
+use lib.Dec.{eqb}
 use lib.ListN.{length, getD, set, take}
 use Rattle.bitset.specs.Set.{member, insert}
 use Rattle.bitset.specs.Words.{value}
@@ -14,18 +16,27 @@ use Rattle.knowledge.specs.Inner.State.{Room, Holds}
 use Rattle.knowledge.specs.Inner.Lines.{Kept}
 use Rattle.knowledge.specs.declared.Knowledge.{Knowledge}
 
+unfoldable pub stands : ℕ → List ℕ → Bool
+stands x [] = false
+stands x (e ∷ es) = eqb e x || stands x es
+
+-- the first n of a list, each where it first stands: a number goes behind the others unless it stands among them
+unfoldable pub firsts : List ℕ → ℕ → List ℕ
+firsts list zero = []
+firsts list (suc n) = firsts list n ++ cond (stands (getD list n 0) (firsts list n)) [] (getD list n 0 ∷ [])
+
 -- place k of a list is kept at place `end` unless it was seen
 pub record KeptNew (k end : ℕ) (list seen list′ seen′ : List ℕ) (r : ℕ) : Type 0 where
   pub words : FourWords seen′
   pub old : member (value seen) (getD list k 0) ≡ true → (r ≡ end) × (list′ ≡ list) × (value seen′ ≡ value seen)
   pub new : member (value seen) (getD list k 0) ≡ false → (r ≡ end + 1) × (list′ ≡ set list end (getD list k 0)) × (value seen′ ≡ insert (value seen) (getD list k 0))
 
--- the first r of a list have all of the first len, and what is learnt from them is the same
+-- the first r of the list are its first len without repeats, and the places from r on are as they were
 pub record Dropped (len : ℕ) (list list′ : List ℕ) (r : ℕ) : Type 0 where
   pub room : length list′ ≡ 512
   pub few : r ≤ len
-  pub heads : (f : ℕ → ℕ) → learnAll f nothing (take r list′) ≡ learnAll f nothing (take len list)
-  pub among : (live : ℕ → Bool) → ((k : ℕ) → k < len → live (getD list k 0) ≡ true) → (k : ℕ) → k < r → live (getD list′ k 0) ≡ true
+  pub heads : take r list′ ≡ firsts list len
+  pub later : (k : ℕ) → r ≤ k → getD list′ k 0 ≡ getD list k 0
 
 -- after the heads `es`, with sets f, the state is what is known of them, and the tables are kept for the live entries
 pub record Held (live : ℕ → Bool) (f : ℕ → ℕ) (es : List ℕ) (x : Knowledge) (rs us cs : List (List ℕ)) (empty : List ℕ) : Type 0 where

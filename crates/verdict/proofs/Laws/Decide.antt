@@ -12,7 +12,7 @@ use Rattle.bitset.specs.Words.{packed, value}
 use Rattle.bitset.specs.Inner.{FourWords}
 use Rattle.deduction.specs.Setting.{Setting}
 use Rattle.deduction.specs.Standard.{setAt, repAt}
-use Rattle.deduction.specs.Elimination.{Row, reduce}
+use Rattle.deduction.specs.Elimination.{reduce}
 use Rattle.deduction.specs.Step.{Step}
 use Rattle.deduction.specs.Run.{knowledge}
 use Rattle.deduction.proofs.Standard.{rep-le, rep-rep, rep-set}
@@ -25,9 +25,10 @@ use Rattle.derive.specs.Inner.Ran.{verdictOf, endOf, Ran}
 use Rattle.derive.specs.declared.run.Ended as program
 use Rattle.derive.proofs.Laws.Machine.{asEnded, machine-run}
 use Rattle.verdict.specs.Buffer.{front}
-use Rattle.verdict.specs.Answer.{outcomeOf, missingAs, missingBy, missingOf, frontBytes, frontOf}
+use Rattle.verdict.specs.Answer.{outcomeOf, missingAs, missingOf, frontBytes, frontOf}
 use Rattle.start.specs.Start.{startHeads}
-use Rattle.verdict.specs.Inner.Decide.{reducedOf, Decided}
+use Rattle.verdict.specs.Inner.Decide.{reducedOf, missingIn, Decided}
+use Rattle.verdict.proofs.Laws.Front.{missing-by-rows}
 
 -- the empty set, and a table of empty sets
 pub value-zero : value (0 ∷ 0 ∷ 0 ∷ 0 ∷ []) ≡ 0
@@ -70,13 +71,6 @@ module _ (on : Setting) (s : List ℕ) (cut budget : ℕ) where
     count : r .made ≡ length (outcomeOf on s cut budget .steps)
     count = ran .count ∙ ap length steps
 
-    -- the buffer keeps room for its front
-    pub long : front ≤ length out → front ≤ length out′
-    long space = le-trans (le-of-eq (sym (length-take-le front out space))) (at-least (take front out) _ out′ (ran .bytes))
-      where
-        at-least : (a b l : List ℕ) → l ≡ a ++ b → length a ≤ length l
-        at-least a b l p = omega (arith, ap length p ∙ length-append a b)
-
     module _ (right : (i : ℕ) → i < countOf s → getD reps i 0 ≡ repAt (entryAt s) i) (within : goalOf s < countOf s) where
       -- the line of the goal's head is what the rows at the end leave of the goal's set
       goal-line : lineAt rs us (repAt (entryAt s) (goalOf s)) ≡ reduce (knowledge (entryAt s) (outcomeOf on s cut budget .learnt) .rows) (setAt (entryAt s) (goalOf s))
@@ -94,14 +88,16 @@ module _ (on : Setting) (s : List ℕ) (cut budget : ℕ) where
 
       module _ (goal remainder used line-remainder line-used : List ℕ) (head : ℕ) (set : value goal ≡ setAt (entryAt s) (goalOf s))
           (at : head ≡ getD reps (goalOf s) 0) (read : reducedOf line-remainder line-used ≡ lineAt rs us head)
-          (found : (rows : List Row) → reducedOf line-remainder line-used ≡ reduce rows (value goal) → reducedOf remainder used ≡ missingAs (verdictOf (r .verdict)) (missingBy on rows (value goal))) where
+          (found : reducedOf remainder used ≡ missingAs (verdictOf (r .verdict)) (missingIn on (reducedOf line-remainder line-used) (value goal))) where
         -- so what is missing of the goal is read off it
         missing : reducedOf remainder used ≡ missingOf on s cut budget
         unfolding missingOf
         missing =
-            found (knowledge (entryAt s) (outcomeOf on s cut budget .learnt) .rows)
-            (read ∙ ap (lineAt rs us) (at ∙ right (goalOf s) within) ∙ goal-line ∙ ap (reduce (knowledge (entryAt s) (outcomeOf on s cut budget .learnt) .rows)) (sym set))
-            ∙ (λ i. missingAs (verdict i) (missingBy on (knowledge (entryAt s) (outcomeOf on s cut budget .learnt) .rows) (set i)))
+            found
+            ∙ ap₂ missingAs verdict
+            (ap (missingIn on (reducedOf line-remainder line-used)) set
+            ∙ missing-by-rows on (reducedOf line-remainder line-used) (knowledge (entryAt s) (outcomeOf on s cut budget .learnt) .rows) (setAt (entryAt s) (goalOf s))
+            (read ∙ ap (lineAt rs us) (at ∙ right (goalOf s) within) ∙ goal-line))
 
         pub decided : front ≤ length out → (out″ : List ℕ) → out″ ≡ frontBytes (value (r .known)) (value used) (value remainder) ++ drop front out′ → Decided on s cut budget out out″ r
         unfolding frontOf

@@ -43,7 +43,6 @@ use Rattle.verdict.specs.Answer.{outcomeOf, missingAs, missingBy, missin
 use Rattle.start.specs.Start.{startEntries, startHeads, startTerms}
 use Rattle.start.proofs.Laws.Heads.{start-below}
 use Rattle.verdict.specs.Demands.{verdictCode, goalTerm, Meets}
-use Rattle.verdict.proofs.Laws.Front.{missing-with-sum, missing-without-sum}
 use Rattle.verdict.proofs.Laws.Readback.{Narrow, read-back, front-length, gained-read, used-read, remainder-read}
 
 -- the set of a step that follows has members below n only
@@ -129,10 +128,12 @@ module _ (on : Setting) (s : List ℕ) (cut budget : ℕ) (ok : refusal s ≡ 0)
   lacked = missingBy on (knowledge (entryAt s) (o .learnt) .rows) (setAt (entryAt s) (goalOf s))
 
   with-sum : on 6 ≡ true → lacked ≡ tested
-  with-sum = missing-with-sum on (knowledge (entryAt s) (o .learnt) .rows) (setAt (entryAt s) (goalOf s))
+  unfolding missingBy
+  with-sum w = rw w
 
   without-sum : on 6 ≡ false → lacked ≡ record { remainder = setAt (entryAt s) (goalOf s); used = 0 }
-  without-sum = missing-without-sum on (knowledge (entryAt s) (o .learnt) .rows) (setAt (entryAt s) (goalOf s))
+  unfolding missingBy
+  without-sum w = rw w
 
   missing-out : o .verdict ≡ underivable → missingOf on s cut budget ≡ lacked
   unfolding missingOf missingAs

@@ -1,6 +1,6 @@
 -- The front of the buffer: which sets stand there, and how they are written. Assumes nothing.
 use mathlib.Core.Path.{_≡_, refl, sym, ap, ap₂, _∙_}
-use mathlib.Core.Bool.{true, false, true≢false, false≢true}
+use mathlib.Core.Bool.{true, false, true≢false, false≢true, cond}
 use mathlib.Core.List.{List, _++_, append-assoc}
 use Prim.Native.Nat.{ℕ, _+_, _-_, _≤_}
 use native.Mathlib.Omega.{arith}
@@ -16,16 +16,21 @@ use Rattle.deduction.specs.Run.{Verdict, derivable, underivable, exhausted}
 use Rattle.derive.proofs.Laws.Written.{withSet, set-stored}
 use Rattle.verdict.specs.Buffer.{front}
 use Rattle.verdict.specs.Answer.{missingAs, missingBy, frontBytes}
-use Rattle.verdict.specs.Inner.Decide.{isUnderivable}
+use Rattle.verdict.specs.Inner.Decide.{isUnderivable, missingIn}
 
--- with sum what is missing is what the sum test hands back, and without it the set itself
-pub missing-with-sum : (on : Setting) (rows : List Row) (v : ℕ) → on 6 ≡ true → missingBy on rows v ≡ reduce rows v
-unfolding missingBy
-missing-with-sum on rows v w = rw w
+-- with sum what is missing is the line, and without it the set itself
+pub missing-with-sum : (on : Setting) (line : Reduced) (v : ℕ) → on 6 ≡ true → missingIn on line v ≡ line
+unfolding missingIn
+missing-with-sum on line v w = rw w
 
-pub missing-without-sum : (on : Setting) (rows : List Row) (v : ℕ) → on 6 ≡ false → missingBy on rows v ≡ record { remainder = v; used = 0 }
-unfolding missingBy
-missing-without-sum on rows v w = rw w
+pub missing-without-sum : (on : Setting) (line : Reduced) (v : ℕ) → on 6 ≡ false → missingIn on line v ≡ record { remainder = v; used = 0 }
+unfolding missingIn
+missing-without-sum on line v w = rw w
+
+-- with the line that the rows leave it is what is missing by them
+pub missing-by-rows : (on : Setting) (line : Reduced) (rows : List Row) (v : ℕ) → line ≡ reduce rows v → missingIn on line v ≡ missingBy on rows v
+unfolding missingIn missingBy
+missing-by-rows on line rows v p = ap (λ (x : Reduced). cond (on 6) x (record { remainder = v; used = 0 })) p
 
 -- it counts at out of reach alone
 pub missing-tested : (v : Verdict) (x : Reduced) → isUnderivable v ≡ true → x ≡ missingAs v x

@@ -1,4 +1,4 @@
--- `knowledge::Knowledge::hear` meets its contract: the entry joins the known set, and its row the basis.
+-- `knowledge::Knowledge::hear` meets its contract: the entry joins the known set, and its remainder the rows.
 use mathlib.Core.Path.{_≡_, refl, sym, ap, _∙_}
 use mathlib.Core.Bool.{Bool, true, false, true≢false}
 use Prim.Native.Nat.{ℕ, _<_}
@@ -12,7 +12,7 @@ use Rattle.bitset.specs.Set.{member}
 use Rattle.bitset.specs.Words.{value}
 use Rattle.bitset.proofs.Laws.Words.{Below}
 use Rattle.deduction.specs.Elimination.{Knowledge}
-use Rattle.knowledge.proofs.Laws.Learn.{holds-sum, holds-row, room-same, room-more, room-place}
+use Rattle.knowledge.proofs.Laws.Learn.{heard-none, heard-row, room-same, room-more, room-place}
 use borrow.Author.Needs.{needs}
 use Rattle.knowledge.proofs.Knowledge.hear.Statement.{statement}
 use Rattle.knowledge.proofs.Knowledge.hear.Tie as tie
@@ -51,13 +51,13 @@ add-self c = record { fits = omega (arith, place (c .before .before)) }
 
 returns : tie.Need-returns
 returns c = let s = c .before .before .before .before .before .before in let t = s .args .t1 in let i = c .before .before .before .before .insert in let x = c .before .before in (
-  λ k v h p. holds-row k (s .args .e) v (t .known) (t .rows) (t .len) h (λ m. sym p ∙ s .pre .1 (ap (λ (n : ℕ). member n (s .args .e)) (h .known) ∙ m)) (i .result) (i .ensures) _ (ap (λ (n : ℕ). eqb n 0) (sym p) ∙ some x) (c .put .ensures .1) (ap value (c .put .ensures .0) ∙ p),
+  heard-row (s .args .e) (value (s .args .remainder)) (t .known) (t .rows) (t .len) (i .result) (i .ensures) _ (some x) (c .put .ensures .1) (ap value (c .put .ensures .0)),
   room-more (t .known) (i .result) (t .len) (s .args .e) (i .ensures) (s .pre .0) (new x),
 )
 
 returns-2 : tie.Need-returns-2
 returns-2 c = let s = c .before .before .before .before in let t = s .args .t1 in let i = c .before .before .insert in (
-  λ k v h p. holds-sum k (s .args .e) v (t .known) (t .rows) (t .len) h (λ m. sym p ∙ s .pre .1 (ap (λ (n : ℕ). member n (s .args .e)) (h .known) ∙ m)) (i .result) (i .ensures) (sym p ∙ eqb-true (value (s .args .remainder)) 0 (sym (c .before .is-empty .ensures) ∙ not-false _ (c .if1 .left))),
+  heard-none (s .args .e) (value (s .args .remainder)) (t .known) (t .rows) (t .len) (i .result) (i .ensures) (sym (c .before .is-empty .ensures) ∙ not-false _ (c .if1 .left)),
   room-same (t .known) (i .result) (t .len) (s .args .e) (i .ensures) (s .pre .0),
 )
 

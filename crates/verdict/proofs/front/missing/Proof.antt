@@ -4,7 +4,7 @@ use borrow.Author.Needs.{needs}
 use Rattle.bitset.specs.Words.{value}
 use Rattle.deduction.specs.Setting.{switches}
 use Rattle.derive.specs.Inner.Ran.{verdictOf}
-use Rattle.verdict.specs.Answer.{missingBy}
+use Rattle.verdict.specs.Inner.Decide.{reducedOf, missingIn}
 use Rattle.verdict.proofs.Laws.Front.{missing-tested, missing-nothing}
 use Rattle.verdict.proofs.front.missing.Statement.{statement}
 use Rattle.verdict.proofs.front.missing.Tie as tie
@@ -17,8 +17,8 @@ missing-by-requires c κs = search needs
 
 returns : tie.Need-returns
 returns c = let s = c .before .before .before .args in
-    λ rows p. c .missing-by .ensures rows p
-    ∙ missing-tested (verdictOf (s .verdict)) (missingBy (switches (s .rules)) rows (value (s .goal)))
+    c .missing-by .ensures
+    ∙ missing-tested (verdictOf (s .verdict)) (missingIn (switches (s .rules)) (reducedOf (s .line .remainder) (s .line .used)) (value (s .goal)))
     (sym (c .before .before .is-underivable .ensures) ∙ c .before .if1 .taken)
 
 empty-requires : tie.Need-empty-requires
@@ -29,8 +29,8 @@ empty-requires-2 c κs = search needs
 
 returns-2 : tie.Need-returns-2
 returns-2 c = let s = c .before .before .before .before .args in
-    λ rows p. (λ i. record { remainder = c .before .empty .ensures i; used = c .empty2 .ensures i })
-    ∙ missing-nothing (verdictOf (s .verdict)) (missingBy (switches (s .rules)) rows (value (s .goal)))
+    (λ i. record { remainder = c .before .empty .ensures i; used = c .empty2 .ensures i })
+    ∙ missing-nothing (verdictOf (s .verdict)) (missingIn (switches (s .rules)) (reducedOf (s .line .remainder) (s .line .used)) (value (s .goal)))
     (sym (c .before .before .before .is-underivable .ensures) ∙ c .before .before .if1 .left)
 
 pub missing-spec : {M : Type 1} → statement M
