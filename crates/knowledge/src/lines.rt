@@ -128,13 +128,25 @@ pub fn sweep(
     }
 }
 
+// Line i joins each column in a set that it isn't in. Written out once more, so that line i as a set stays in registers.
+fn join(columns: &mut [[u64; 4]; 256], set: [u64; 4], i: u8)
+    requires { ⌜ length (now columns) ≡ 256 ⌝ }
+    ensures { λ _. ⌜ Flipped (single i) (value set) (now (columns .entry)) (now (columns .exit)) ⌝ }
+{
+    let line = bitset::singleton(i);
+    flip_word(columns, set[0], 0, line);
+    flip_word(columns, set[1], 64, line);
+    flip_word(columns, set[2], 128, line);
+    flip_word(columns, set[3], 192, line);
+}
+
 // Puts line i, whose remainder is set, into the columns, and among the empty lines if it is empty; but only a head.
 fn enter(columns: &mut [[u64; 4]; 256], empty: &mut [u64; 4], head: bool, i: u8, set: [u64; 4])
     requires { ⌜ (length (now columns) ≡ 256) × FourWords (now empty) ⌝ }
     ensures { λ _. ⌜ Entered head i (value set) (now (columns .entry)) (now (empty .entry)) (now (columns .exit)) (now (empty .exit)) ⌝ }
 {
     if head {
-        flip(columns, set, bitset::singleton(i));
+        join(columns, set, i);
         if bitset::is_empty(set) {
             bitset::put(empty, i);
         }

@@ -120,10 +120,10 @@ module _ (i set : ℕ) where
       go true = member-sum (setIn cs q) (single i) k ∙ ap (xor (member (setIn cs q) k)) (member-single i k ∙ sym (and-true (eqb i k)))
       go false = sym (xor-false (member (setIn cs q) k)) ∙ ap (xor (member (setIn cs q) k)) (sym (and-false (eqb i k)))
 
-  module _ {head : Bool} {f : ℕ} {cs cs′ : List (List ℕ)} (h : head ≡ true) (pf : f ≡ single i) (flipped : Flipped f set cs cs′) where
+  module _ {head : Bool} {cs cs′ : List (List ℕ)} (h : head ≡ true) (flipped : Flipped (single i) set cs cs′) where
     entered-column : (q k : ℕ) → member (setIn cs′ q) k ≡ xor (member (setIn cs q) k) (head && (eqb i k && member set q))
     entered-column q k =
-        flipped-member (subst (λ (n : ℕ). Flipped n set cs cs′) pf flipped) q k ∙ ap (λ (b : Bool). xor (member (setIn cs q) k) (b && (eqb i k && member set q))) (sym h)
+        flipped-member flipped q k ∙ ap (λ (b : Bool). xor (member (setIn cs q) k) (b && (eqb i k && member set q))) (sym h)
 
     -- an empty line joins the others
     pub entered-empty : {es es′ : List ℕ} → eqb set 0 ≡ true → FourWords es′ → value es′ ≡ insert (value es) i → Entered head i set cs es cs′ es′

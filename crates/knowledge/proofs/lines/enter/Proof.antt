@@ -7,11 +7,8 @@ use borrow.Author.Needs.{needs}
 use Rattle.knowledge.proofs.lines.enter.Statement.{statement}
 use Rattle.knowledge.proofs.lines.enter.Tie as tie
 
-singleton-requires : tie.Need-singleton-requires
-singleton-requires c κs = search needs
-
-flip-requires : tie.Need-flip-requires
-flip-requires c κs = c .before .before .before .pre .0
+join-requires : tie.Need-join-requires
+join-requires c κs = c .before .before .pre .0
 
 is-empty-requires : tie.Need-is-empty-requires
 is-empty-requires c κs = search needs
@@ -20,13 +17,13 @@ put-requires : tie.Need-put-requires
 put-requires c κs = search needs
 
 returns : tie.Need-returns
-returns c = let s = c .before .before .before .before .before .before .before .before in
-    entered-empty (s .args .i) (value (s .args .set)) (c .before .before .before .before .before .before .before .if1 .taken) (c .before .before .before .before .before .singleton .ensures) (c .before .before .before .before .flip .ensures)
+returns c = let s = c .before .before .before .before .before .before .before in
+    entered-empty (s .args .i) (value (s .args .set)) (c .before .before .before .before .before .before .if1 .taken) (c .before .before .before .before .join .ensures)
     (sym (c .before .before .before .is-empty .ensures) ∙ c .before .before .if2 .taken) (c .put .ensures (s .pre .1) .0) (c .put .ensures (s .pre .1) .1)
 
 returns-2 : tie.Need-returns-2
-returns-2 c = let s = c .before .before .before .before .before .before in
-    entered-some (s .args .i) (value (s .args .set)) (c .before .before .before .before .before .if1 .taken) (c .before .before .before .singleton .ensures) (c .before .before .flip .ensures) (sym (c .before .is-empty .ensures) ∙ c .if2 .left) (s .pre .1)
+returns-2 c = let s = c .before .before .before .before .before in
+    entered-some (s .args .i) (value (s .args .set)) (c .before .before .before .before .if1 .taken) (c .before .before .join .ensures) (sym (c .before .is-empty .ensures) ∙ c .if2 .left) (s .pre .1)
 
 returns-3 : tie.Need-returns-3
 returns-3 c = let s = c .before in entered-none (s .args .i) (value (s .args .set)) (now (s .args .columns)) (now (s .args .empty)) (c .if1 .left) (s .pre .0) (s .pre .1)
@@ -35,8 +32,7 @@ pub enter-spec : {M : Type 1} → statement M
 enter-spec =
     tie.close
     (tie.spec
-    singleton-requires
-    flip-requires
+    join-requires
     is-empty-requires
     put-requires
     returns
