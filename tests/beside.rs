@@ -63,7 +63,7 @@ fn shared_sets(remainder: u64) -> Parts {
 
 fn shared_buckets(t: &mut Tally) {
     for n in [5, 9, 20, 60, 128] {
-        good(t, twice(kinds::bucket(n).0));
+        good(t, twice(kinds::atoms(n).0));
     }
     [4, 12, 30, 85].into_iter().for_each(|n| good(t, shared_openers(n)));
     (0..20).for_each(|remainder| good(t, shared_sets(remainder)));

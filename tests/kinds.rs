@@ -8,9 +8,9 @@ pub type Parts = (Vec<Entry>, Vec<u16>, u16);
 
 // The kinds that the benchmarks go through. `serials` is `names` with every atom in the long record of request E10. `locks` and `openers` have the key pairs
 // of request E6: `locks` is the work of `seals` by rule 7, and in `openers` the half that opens a lock is to be found above it.
-// The last three are the worst for one table each: `users` for that of the users of each entry, `bucket` for that in which equal keys are found, `sweeps` for
-// what is left of each entry and the columns over it.
-pub const BY_NAME: [(&str, fn(usize) -> Parts); 13] = [
+// The last four are the worst for one table each: `users` for that of the users of each entry, `bucket` and `atoms` for that in which equal keys are found,
+// `sweeps` for what is left of each entry and the columns over it. `atoms` has nothing to hear and nothing to gain.
+pub const BY_NAME: [(&str, fn(usize) -> Parts); 14] = [
     ("joins", joins),
     ("sums", sums),
     ("seals", seals),
@@ -24,6 +24,7 @@ pub const BY_NAME: [(&str, fn(usize) -> Parts); 13] = [
     ("users", users),
     ("bucket", bucket),
     ("sweeps", sweeps),
+    ("atoms", atoms),
 ];
 
 // The atom with this number and 1,000.
@@ -131,9 +132,31 @@ pub fn users(n: usize) -> Parts {
     (entries, vec![1], n as u16 - 1)
 }
 
-// Atoms whose keys leave the same remainder by 251, and thus fall into one of 251 buckets. Nothing is heard, so that reading the entries is all the work.
-pub fn bucket(n: usize) -> Parts {
+// Atoms whose keys leave the same remainder by 251, and so fall into one bucket. Nothing is heard and nothing is gained: reading and comparing is all the work.
+pub fn atoms(n: usize) -> Parts {
     ((0..n as u16).map(|i| atom(251 * i)).collect(), vec![], 0)
+}
+
+// Half such atoms, all heard, and above them pairs and seals whose keys fall into the same bucket: each is a step, and the last is the goal. The first part of
+// each is as high as the bucket allows. Where no pair or seal is left, as on small sheets, one more atom stands and is heard.
+pub fn bucket(n: usize) -> Parts {
+    let half = (n as u16).div_ceil(2);
+    let mut entries: Vec<Entry> = (0..half).map(|i| atom(251 * i)).collect();
+    let mut made: Vec<(u64, u16, u16)> = vec![];
+    let (mut heard, mut goal): (Vec<u16>, u16) = ((0..half).collect(), 0);
+    for i in half..n as u16 {
+        let all = (0..i).rev().flat_map(|l| (0..i).flat_map(move |r| [(2, l, r), (3, l, r)]));
+        let falls = |&(kind, l, r): &(u64, u16, u16)| (kind << 32 | u64::from(l) << 8 | u64::from(r)) % 251 == (1 << 32 | 1000) % 251;
+        let next = all.filter(falls).find(|one| !made.contains(one));
+        made.extend(next);
+        entries.push(match next {
+            Some((2, l, r)) => Entry::Pair(l, r),
+            Some((_, l, r)) => Entry::Seal(l, r),
+            None => atom(251 * i),
+        });
+        if next.is_some() { goal = i } else { heard.push(i) }
+    }
+    (entries, heard, goal)
 }
 
 // Half atoms, and sums of the highest of them with each other one but the lowest, all heard from above. Every new row is the sum of two neighbours, and its
