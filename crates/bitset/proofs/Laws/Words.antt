@@ -135,18 +135,19 @@ four (a ∷ b ∷ c ∷ []) p = absurd (omega arith)
 four (a ∷ b ∷ c ∷ d ∷ []) p = refl
 four (a ∷ b ∷ c ∷ d ∷ x ∷ l) p = absurd (omega arith)
 
-zeros : (q : ℕ) → _≡_ {A = ℕ} (getD (0 ∷ 0 ∷ 0 ∷ 0 ∷ []) q 0) 0
-zeros zero = refl
-zeros (suc zero) = refl
-zeros (suc (suc zero)) = refl
-zeros (suc (suc (suc zero))) = refl
-zeros (suc (suc (suc (suc q)))) = refl
+-- four words of zeros
+pub words-zero : (q : ℕ) → _≡_ {A = ℕ} (getD (0 ∷ 0 ∷ 0 ∷ 0 ∷ []) q 0) 0
+words-zero zero = refl
+words-zero (suc zero) = refl
+words-zero (suc (suc zero)) = refl
+words-zero (suc (suc (suc zero))) = refl
+words-zero (suc (suc (suc (suc q)))) = refl
 
 -- one bit among four words of zeros
 pub value-single : (w b : ℕ) → w < 4 → b < 64 → value (set (0 ∷ 0 ∷ 0 ∷ 0 ∷ []) w (1 * 2 ^ b % 2 ^ 64)) ≡ 2 ^ (w * 64 + b)
 unfolding packed
 value-single w b l m =
-    ap (λ (x : ℕ). value (set (0 ∷ 0 ∷ 0 ∷ 0 ∷ []) w x)) (exact ∙ ap (λ (x : ℕ). x + 2 ^ b) (sym (zeros w)))
+    ap (λ (x : ℕ). value (set (0 ∷ 0 ∷ 0 ∷ 0 ∷ []) w x)) (exact ∙ ap (λ (x : ℕ). x + 2 ^ b) (sym (words-zero w)))
     ∙ packed-add 64 (0 ∷ 0 ∷ 0 ∷ 0 ∷ []) w (2 ^ b) l
     ∙ zero-add (2 ^ b * 2 ^ (w * 64))
     ∙ sym (pow-add 2 b (w * 64))
