@@ -1,7 +1,7 @@
-// The lines: for each entry what the rows leave of its set, and the learnt entries used, kept up while entries are learnt. So a sum test is a look at a
-// line, and learning an entry walks no rows.
-// Beside them the columns: for each entry q the set of lines whose remainder has q, so that a new row is taken off the lines that change and no other; and the
-// set of lines of which nothing is left.
+// The lines: for each head what the rows leave of its set, and the learnt entries used, kept up while heads are learnt. So a sum test is a look at a line,
+// and learning a head walks no rows.
+// Beside them the columns: for each entry q the set of heads whose remainder has q, so that a new row is taken off the lines that change and no other; and the
+// set of heads of whose line nothing is left. The lines of other entries stand in no column and are not kept up.
 ghost use mathlib.Core.Path.{_≡_};
 ghost use mathlib.Core.Bool.{Bool, true};
 ghost use mathlib.Core.List.{List, []};
@@ -73,7 +73,7 @@ fn add_to_column(
     add_to_word(remainders, used, empty, column[3], 192, vector, uses);
 }
 
-// Adds lines to column q, and takes off it those that it has.
+// Changes column q by a set of lines: those that it lacks are added, and those that it has are taken off.
 fn flip_column(columns: &mut [[u64; 4]; 256], q: u8, lines: [u64; 4])
     requires { ⌜ length (now columns) ≡ 256 ⌝ }
     ensures { λ _. ⌜ Flipped (value lines) (single q) (now (columns .entry)) (now (columns .exit)) ⌝ }
@@ -153,7 +153,7 @@ fn enter(columns: &mut [[u64; 4]; 256], empty: &mut [u64; 4], head: bool, i: u8,
     }
 }
 
-// The tables at the start, for the first n entries that are their own representatives: the remainders are the sets, nothing is used.
+// Fills the columns and the empty lines, of which there are none before, from the remainders of the heads among the first n entries.
 pub fn begin(
     remainders: &[[u64; 4]; 256],
     reps: &[u8; 256],

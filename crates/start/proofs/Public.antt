@@ -107,7 +107,7 @@ module _ (e : ℕ → Entry) where
   public-every n down i a h p l = listed-head n (repAt e i) (omega (arith, rep-le e i)) (ap isPublic (atom-head n down i a h p) ∙ lt-ltb a 256 l) (rep-rep e i)
 
   -- where no entry is a public atom, none is listed
-  pub public-none : (n : ℕ) → ((i : ℕ) → i < n → isPublic (e i) ≡ false) → publicHeads e n ≡ []
+  public-none : (n : ℕ) → ((i : ℕ) → i < n → isPublic (e i) ≡ false) → publicHeads e n ≡ []
   unfolding publicHeads
   public-none zero h = refl
   public-none (suc n) h =

@@ -59,7 +59,7 @@ module _ {on : Setting} {s : List ℕ} {cut budget : ℕ} {old out : List ℕ} {
   pub named : (v : Verdict) → m .verdict ≡ v → answer ≡ verdictCode v + m .count
   named v p = m .coded ∙ ap (λ (w : Verdict). verdictCode w + m .count) p
 
-  pub is-reached : answer < 2000 → m .verdict ≡ derivable
+  is-reached : answer < 2000 → m .verdict ≡ derivable
   is-reached h = go (m .verdict) refl
     where
       go : (v : Verdict) → m .verdict ≡ v → m .verdict ≡ derivable

@@ -38,7 +38,7 @@ use Rattle.verdict.specs.Locks.{sheetPublic, sheetShut, sheetBoth, sheet
 use Rattle.verdict.proofs.Unique.{as-run, answer-run, known-run, missing-run}
 
 -- An atom and zero, nothing heard, the atom as goal: it is out of reach after one rung, the sum of nothing
-abbrev pub sheetZ : List ℕ
+abbrev sheetZ : List ℕ
 sheetZ = head (0 ∷ 2 ∷ 0 ∷ 0 ∷ 0 ∷ 0 ∷ 0 ∷ 18 ∷ 0 ∷ 3 ∷ 0 ∷ 21 ∷ 0 ∷ 1 ∷ 1 ∷ 3 ∷ 232 ∷ 0 ∷ [])
 
 -- the sheet is good, the cut is within its log, these heads are gained at the start, and the run makes these rungs and ends so

@@ -5,7 +5,7 @@ use mathlib.Core.Path.{_≡_, refl, sym, ap, ap₂, _∙_}
 use mathlib.Core.Bool.{true, false}
 use mathlib.Core.Logic.{_⊎_, inl, inr, by-cases}
 use mathlib.Core.List.{List}
-use Prim.Native.Nat.{ℕ, zero, suc, _+_, _-_, _*_, _/_, _%_, _^_, _≤_, _<_, min}
+use Prim.Native.Nat.{ℕ, zero, suc, _+_, _-_, _*_, _/_, _%_, _^_, _<_, min}
 use native.Mathlib.Nat.{pow-suc, not-suc-le-zero}
 use native.Mathlib.Decide.{decLt}
 use native.Mathlib.Omega.{arith}
@@ -18,14 +18,8 @@ use Rattle.bitset.specs.Words.{value}
 use Rattle.bitset.specs.Inner.{LowestOf}
 use Rattle.bitset.proofs.Laws.Member.{bit-cases, member-zero, member-suc, member-empty}
 use Rattle.bitset.proofs.Laws.Words.{Below}
+use Rattle.bitset.proofs.Laws.Sums.{half-power, even-power}
 use Rattle.bitset.proofs.Laws.Union.{word-member}
-
--- half of a power and its lowest bit
-half-power : (k : ℕ) → 2 ^ suc k / 2 ≡ 2 ^ k
-half-power k = let q = pow-suc 2 k in omega arith
-
-even-power : (k : ℕ) → 2 ^ suc k % 2 ≡ 0
-even-power k = let q = pow-suc 2 k in omega arith
 
 -- t is the lowest member of w, and the rest of w is the sum with t
 record Parts (d w t : ℕ) : Type 0 where

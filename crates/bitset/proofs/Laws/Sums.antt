@@ -1,15 +1,14 @@
 -- Sums of sets as an algebra, and the number of members.
 -- Defined: `Inside`, every member of one set is a member of another.
 -- Shown: two equal sets cancel, sums of sums can be regrouped, a sum is empty only where its two sets are equal; the members of a set
--- and a new entry; a new entry adds one to the number of members; a set of entries below n is below 2^n. Assumes nothing.
+-- and a new entry; half of a power of two and its lowest bit; a new entry adds one to the number of members; a set of entries below n is below 2^n. Assumes nothing.
 use mathlib.Core.Path.{_≡_, refl, sym, ap, ap₂, _∙_}
 use mathlib.Core.Bool.{Bool, true, false, true≢false, false≢true, xor, cond, Bool·not-not, _||_, or-true}
 use mathlib.Core.Logic.{_⊎_, inl, inr}
 use Prim.Native.Nat.{ℕ, zero, suc, _+_, _/_, _%_, _^_, _<_}
-use native.Mathlib.Nat.{pow-suc, two-pow-succ, mul-mod-left, mul-div-cancel, not-suc-le-zero, le-of-suc-le-suc}
+use native.Mathlib.Nat.{pow-suc, two-pow-succ, not-suc-le-zero, le-of-suc-le-suc}
 use native.Mathlib.Omega.{arith}
 use lib.Bits.{bitXor, xor-comm, xor-self, xor-zero-r, xor-mod, xor-shr}
-use lib.Pow.{pow-pos}
 use lib.Count.{ones, ones-step}
 use lib.Dec.{eqb}
 use borrow.Author.Tests.{eqb-true, eqb-false, eq-eqb, ne-eqb}
@@ -96,6 +95,13 @@ insert-own s e = member-insert s e e ∙ ap (λ (b : Bool). member s e || b) (eq
 pub insert-old : (s e : ℕ) → Inside s (insert s e)
 insert-old s e k m = member-insert s e k ∙ ap (λ (b : Bool). b || eqb e k) m
 
+-- half of a power of two, and its lowest bit
+pub half-power : (k : ℕ) → 2 ^ suc k / 2 ≡ 2 ^ k
+half-power k = let q = pow-suc 2 k in omega arith
+
+pub even-power : (k : ℕ) → 2 ^ suc k % 2 ≡ 0
+even-power k = let q = pow-suc 2 k in omega arith
+
 ones-sum : (s e : ℕ) → member s e ≡ false → ones (bitXor s (2 ^ e)) ≡ suc (ones s)
 ones-sum s zero m =
     ones-step (bitXor s 1) ∙ ap₂ (λ (x y : ℕ). x + ones y) (xor-mod s 1 1 ∙ ap (λ (x : ℕ). bitXor x 1) even) (xor-shr s 1 1 ∙ xor-zero-r (s / 2))
@@ -115,12 +121,6 @@ ones-sum s (suc e) m =
     ∙ ap (λ (x : ℕ). s % 2 + x) (ones-sum (s / 2) e (sym (member-suc s e) ∙ m))
     ∙ more (s % 2) (ones (s / 2)) ∙ ap suc (sym (ones-step s))
   where
-    even-power : (k : ℕ) → 2 ^ suc k % 2 ≡ 0
-    even-power k = ap (λ (x : ℕ). x % 2) (pow-suc 2 k) ∙ mul-mod-left (2 ^ k) 2
-
-    half-power : (k : ℕ) → 2 ^ suc k / 2 ≡ 2 ^ k
-    half-power k = ap (λ (x : ℕ). x / 2) (pow-suc 2 k) ∙ mul-div-cancel (2 ^ k) (pow-pos 1)
-
     more : (x y : ℕ) → x + suc y ≡ suc (x + y)
     more x y = omega arith
 

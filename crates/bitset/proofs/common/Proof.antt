@@ -10,8 +10,6 @@ use Rattle.bitset.proofs.Laws.Union.{words-member, member-and}
 use borrow.Author.Needs.{needs}
 use Rattle.bitset.proofs.common.Statement.{statement}
 use Rattle.bitset.proofs.common.Tie as tie
-use Rattle.bitset.proofs.common.Reads as reads
-use Rattle.bitset.proofs.common.Lts as lts
 
 words1 : (c : tie.Start) → Below 64 (c .args .t1)
 words1 c i = let f : Fits w64 (getD (c .args .t1) i 0) = search needs in f .fits

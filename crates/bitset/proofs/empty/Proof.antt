@@ -2,8 +2,6 @@ use borrow.Author.Needs.{needs}
 use Rattle.bitset.specs.Words.{packed}
 use Rattle.bitset.proofs.empty.Statement.{statement}
 use Rattle.bitset.proofs.empty.Tie as tie
-use Rattle.bitset.proofs.empty.Reads as reads
-use Rattle.bitset.proofs.empty.Lts as lts
 
 -- src/lib.rt:14:1
 returns : tie.Need-returns

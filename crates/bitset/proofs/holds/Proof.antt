@@ -1,5 +1,5 @@
 -- `bitset::holds` meets its contract: a member is a bit of one word.
-use mathlib.Core.Path.{_≡_, sym, ap, _∙_}
+use mathlib.Core.Path.{sym, ap, _∙_}
 use native.Mathlib.Omega.{arith}
 use denote.Ref.{now}
 use Rattle.bitset.specs.Set.{member}

@@ -1,5 +1,5 @@
 -- `bitset::insert` meets its contract: a union with e alone.
-use mathlib.Core.Path.{_≡_, sym, ap, _∙_}
+use mathlib.Core.Path.{sym, ap, _∙_}
 use mathlib.Core.Bool.{Bool, _||_}
 use Prim.Native.Nat.{ℕ}
 use borrow.Author.Needs.{needs}

@@ -1,5 +1,5 @@
 -- `bitset::minus` meets its contract: the first set without what both have in common.
-use mathlib.Core.Path.{_≡_, ap, _∙_}
+use mathlib.Core.Path.{ap, _∙_}
 use mathlib.Core.Bool.{xor}
 use Prim.Native.Nat.{ℕ}
 use Rattle.bitset.specs.Set.{member}

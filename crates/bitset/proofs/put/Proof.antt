@@ -1,5 +1,5 @@
 -- `bitset::put` meets its contract: one bit more in one word.
-use mathlib.Core.Path.{_≡_, sym, ap, _∙_}
+use mathlib.Core.Path.{ap, _∙_}
 use native.Mathlib.Omega.{arith}
 use denote.Ref.{now}
 use Rattle.bitset.specs.Set.{insert}

@@ -1,11 +1,9 @@
 -- `bitset::rest` meets its contract: a word and the number before it have all members in common but the lowest.
-use mathlib.Core.Path.{_≡_, sym, ap, _∙_}
+use mathlib.Core.Path.{sym, ap, _∙_}
 use mathlib.Core.Bool.{Bool, cond}
-use Prim.Native.Nat.{ℕ}
 use native.Mathlib.Omega.{arith}
 use lib.Bits.{bitXor}
 use lib.Count.{trailingZeros}
-use lib.Dec.{eqb}
 use borrow.Author.Tests.{eq-eqb, ne-eqb}
 use Rattle.bitset.specs.Set.{single}
 use Rattle.bitset.proofs.Laws.Lowest.{rest-sum}

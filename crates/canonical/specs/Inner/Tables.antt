@@ -1,7 +1,7 @@
 -- What the three tables hold: line i has the key, the set of standard entries and the representative of entry i.
 -- Defined: `RightLine`, one line of them; `RightBy`, they are right for the first n entries, with keys by a function; `Sized`, the lengths; `FilledBy`,
--- what filling them does. `Right` and `Filled`: with the keys of the entries; `Tabled` and `Finished`: the keys have what opens a lock in them, as the
--- tables are read. `Opened`, that it was put there; `openIn`, how.
+-- what filling them does. `Right` and `Filled`: with the keys of the entries; `Finished`: the keys have what opens a lock in them, as the tables
+-- are read. `Opened`, that it was put there; `openIn`, how.
 use mathlib.Core.Path.{_≡_}
 use mathlib.Core.Bool.{cond}
 use mathlib.Core.List.{List, []}
@@ -55,9 +55,6 @@ abbrev pub Filled : (ℕ → Entry) → ℕ → List ℕ → List (List ℕ) →
 Filled e = FilledBy (keyAt e) e
 
 -- as they are read: the keys have it
-abbrev pub Tabled : (ℕ → Entry) → ℕ → List ℕ → List (List ℕ) → List ℕ → Type 0
-Tabled e n = RightBy (openKeyAt e n) e n
-
 abbrev pub Finished : (ℕ → Entry) → ℕ → List ℕ → List (List ℕ) → List ℕ → List ℕ → List (List ℕ) → List ℕ → Type 0
 Finished e n = FilledBy (openKeyAt e n) e n
 

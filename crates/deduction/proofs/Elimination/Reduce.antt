@@ -40,17 +40,6 @@ pub reduce-more : (rows : List Row) (r : Row) (v : ℕ) → reduce (rows ++ (r �
 unfolding reduce
 reduce-more rows r v = reduceFrom-more (record { remainder = v; used = 0 }) rows r
 
--- and the remainder needs no used set: this is how remainders are kept while rows are added
-pub remainder-more : (rows : List Row) (r : Row) (v : ℕ)
-    → reduce (rows ++ (r ∷ [])) v .remainder
-    ≡ cond (member (reduce rows v .remainder) (leading (r .vector))) (bitXor (reduce rows v .remainder) (r .vector)) (reduce rows v .remainder)
-unfolding take-off
-remainder-more rows r v = ap (λ (x : Reduced). x .remainder) (reduce-more rows r v) ∙ go (member (reduce rows v .remainder) (pivot r))
-  where
-    go : (b : Bool) → cond b (off (reduce rows v) r) (reduce rows v) .remainder ≡ cond b (bitXor (reduce rows v .remainder) (r .vector)) (reduce rows v .remainder)
-    go true = refl
-    go false = refl
-
 -- two results side by side
 abbrev pub both : Reduced → Reduced → Reduced
 both x y = record { remainder = bitXor (x .remainder) (y .remainder); used = bitXor (x .used) (y .used) }

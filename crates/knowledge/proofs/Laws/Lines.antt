@@ -1,8 +1,8 @@
 -- The tables of lines and columns while entries are learnt.
--- Shown: `kept-learnt`, what they hold after a new row was taken off, and `kept-idle`, where there is none; `kept-begun`, at the start; `kept-same`, for other live entries that are the same ones.
+-- Shown: `kept-learnt`, what they hold after a new row was taken off, and `kept-idle`, where there is none; `kept-begun`, at the start.
 -- Assumes nothing.
 use mathlib.Core.Path.{_≡_, refl, sym, ap, ap₂, _∙_, subst}
-use mathlib.Core.Bool.{Bool, true, false, true≢false, false≢true, xor, cond, _&&_, _||_, or-false, and-true, and-false}
+use mathlib.Core.Bool.{Bool, true, false, true≢false, xor, cond, _&&_, _||_, or-false, and-true, and-false}
 use mathlib.Core.Logic.{by-cases}
 use mathlib.Core.List.{List, [], _∷_, _++_}
 use Prim.Native.Nat.{ℕ, _+_, _<_}
@@ -19,7 +19,7 @@ use Rattle.bitset.proofs.Laws.Member.{member-empty, member-sum, member-single, 
 use Rattle.deduction.specs.Elimination.{Row, Reduced, reduce, reduceFrom, take-off, addRow}
 use Rattle.deduction.proofs.Elimination.Reduce.{reduce-more}
 use Rattle.knowledge.proofs.Laws.Learn.{add-none, add-one-row}
-use Rattle.knowledge.specs.Inner.Lines.{setIn, lineAt, plus, Sizes, Swept, Flipped, Kept, Entered, headIn, Begun}
+use Rattle.knowledge.specs.Inner.Lines.{setIn, lineAt, plus, Swept, Flipped, Kept, Entered, headIn, Begun}
 
 -- the row and the column by turns: which of them is asked first makes no difference
 crossed : (l a b c : Bool) → cond c (xor (l && a) (l && b)) (l && a) ≡ (l && cond b (xor a c) a)
@@ -237,13 +237,3 @@ kept-begun n s {rs} {us} {reps} {cs} {es} h lr lu sets none = record {
         go : (b : Bool) → headIn reps n k ≡ b → (b && f (setIn rs k)) ≡ (b && f (s k))
         go true p = ap f (sets k (within k p))
         go false p = refl
-
--- other live entries that are the same ones
-pub kept-same : {live live′ : ℕ → Bool} {s : ℕ → ℕ} {rows : List Row} {rs us cs : List (List ℕ)} {es : List ℕ} → ((k : ℕ) → live k ≡ live′ k) → Kept live s rows rs us cs es → Kept live′ s rows rs us cs es
-kept-same {live} {live′} {s} {rows} e h = record {
-  sizes = h .sizes;
-  size = h .size;
-  line = λ k l. h .line k (e k ∙ l);
-  column = λ q k. h .column q k ∙ ap (λ (b : Bool). b && member (reduce rows (s k) .remainder) q) (e k);
-  empty = λ k. h .empty k ∙ ap (λ (b : Bool). b && eqb (reduce rows (s k) .remainder) 0) (e k);
-}

@@ -12,21 +12,6 @@ module _ {A : Type 0} where
   pub same-refl : (a b : ℕ) (ws : List A) → SameOutside a b ws ws
   same-refl a b ws = record { size = refl; under = λ k d h. refl; over = λ k d h. refl }
 
-  pub same-trans : {a b : ℕ} {ws vs us : List A} → SameOutside a b ws vs → SameOutside a b vs us → SameOutside a b ws us
-  same-trans p q = record {
-    size = q .size ∙ p .size;
-    under = λ k d h. q .under k d h ∙ p .under k d h;
-    over = λ k d h. q .over k d h ∙ p .over k d h;
-  }
-
-  -- a wider part
-  pub same-wider : {a b : ℕ} (a′ b′ : ℕ) {ws vs : List A} → a′ ≤ a → b ≤ b′ → SameOutside a b ws vs → SameOutside a′ b′ ws vs
-  same-wider a′ b′ low high p = record {
-    size = p .size;
-    under = λ k d h. p .under k d (lt-of-lt-of-le h low);
-    over = λ k d h. p .over k d (le-trans high h);
-  }
-
   -- one more store in the part
   pub same-set : {a b : ℕ} {ws vs : List A} (i : ℕ) (x : A) → a ≤ i → i < b → SameOutside a b ws vs → SameOutside a b ws (set vs i x)
   same-set {a} {b} {ws} {vs} i x low high p = record {
@@ -42,7 +27,7 @@ module _ {A : Type 0} where
       more k h e = omega arith
 
 -- four words stored one after the other
-abbrev pub storeFour : List ℕ → ℕ → ℕ → ℕ → ℕ → ℕ → List ℕ
+abbrev storeFour : List ℕ → ℕ → ℕ → ℕ → ℕ → ℕ → List ℕ
 storeFour ws k a b c d = set (set (set (set ws k a) (k + 1) b) (k + 2) c) (k + 3) d
 
 module _ (ws : List ℕ) (k a b c d : ℕ) where

@@ -33,7 +33,7 @@ use Rattle.start.proofs.Laws.Lists.{getD-member}
 other : (K : ℕ) → 2 * 2 ^ 32 ≤ K → publicKey K ≡ false
 other K h = ap₂ _&&_ (le-leb (2 ^ 32) K (omega arith)) (le-ltb K (2 ^ 32 + 256) (omega arith))
 
-pub key-public : (rep : ℕ → ℕ) (e : ℕ → Entry) (n : ℕ) (d : Entry) (K : ℕ) → K ≡ keyOf rep d + openerOf e n d * 65536 → publicKey K ≡ isPublic d
+key-public : (rep : ℕ → ℕ) (e : ℕ → Entry) (n : ℕ) (d : Entry) (K : ℕ) → K ≡ keyOf rep d + openerOf e n d * 65536 → publicKey K ≡ isPublic d
 unfolding keyOf openerOf isPublic
 key-public rep e n Zero K q = ap publicKey q
 key-public rep e n (Atom a) K q = ap publicKey q
@@ -131,7 +131,7 @@ module _ (s : List ℕ) (ok : refusal s ≡ 0) (cut : ℕ) (within : cut ≤ tra
       ⊎-elim (λ q. public-only (entryAt s) (countOf s) i q .0) (trace-below i) (List·Memᴰ·append-cases (publicHeads (entryAt s) (countOf s)) m)
 
   -- and so is every number of the list
-  pub heads-below : (len : ℕ) (list : List ℕ) → len ≤ length list → take len list ≡ startHeads s cut → (k : ℕ) → k < len → getD list k 0 < countOf s
+  heads-below : (len : ℕ) (list : List ℕ) → len ≤ length list → take len list ≡ startHeads s cut → (k : ℕ) → k < len → getD list k 0 < countOf s
   heads-below len list room p k h =
       let m = subst (List·Memᴰ (getD (take len list) k 0)) p (getD-member (take len list) k 0 (subst (λ (n : ℕ). k < n) (sym (length-take-le len list room)) h)) in
       let (i, c, q) = Memᴰ·of-map (repAt (entryAt s)) (startEntries s cut) m in

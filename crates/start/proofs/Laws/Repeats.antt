@@ -75,7 +75,7 @@ firsts-apart list (suc n) i j h l p = go (stands (getD list n 0) (firsts list n)
     go false q before l p = apart-more (firsts list n) (getD list n 0) q before i j h l p
 
 -- each stands in the list
-pub firsts-from : (list : List ℕ) (n x : ℕ) → List·Memᴰ x (firsts list n) → (k : ℕ) × (k < n) × (x ≡ getD list k 0)
+firsts-from : (list : List ℕ) (n x : ℕ) → List·Memᴰ x (firsts list n) → (k : ℕ) × (k < n) × (x ≡ getD list k 0)
 unfolding firsts
 firsts-from list zero x m = absurd (List·Memᴰ·not-nil m)
 firsts-from list (suc n) x m =
@@ -94,7 +94,7 @@ known-stands f k (e ∷ es) x =
     ∙ or-assoc (member (k .known) x) (eqb e x) (stands x es)
 
 -- both lists teach the same
-pub firsts-taught : (f : ℕ → ℕ) (list : List ℕ) (n : ℕ) → n ≤ length list → learnAll f nothing (firsts list n) ≡ learnAll f nothing (take n list)
+firsts-taught : (f : ℕ → ℕ) (list : List ℕ) (n : ℕ) → n ≤ length list → learnAll f nothing (firsts list n) ≡ learnAll f nothing (take n list)
 unfolding firsts
 firsts-taught f list zero h = refl
 firsts-taught f list (suc n) h = go (stands (getD list n 0) (firsts list n)) refl (firsts-taught f list n (omega arith))

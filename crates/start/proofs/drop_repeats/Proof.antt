@@ -1,12 +1,10 @@
 -- `start::drop_repeats` meets its contract. The loop's invariant: the list begins with its first k places without repeats.
-use mathlib.Core.Path.{_≡_, sym, ap, _∙_}
-use Prim.Native.Nat.{ℕ, _-_, _≤_}
+use Prim.Native.Nat.{_-_, _≤_}
 use native.Mathlib.Omega.{arith}
 use mir.Syntax.{w64}
 use mir.Val.{Fits}
 use lib.ListN.{getD}
 use denote.Ref.{now}
-use Rattle.bitset.specs.Inner.{FourWords}
 use Rattle.start.proofs.Laws.Repeats.{Without, without-none, without-more, without-all}
 use borrow.Author.Needs.{needs}
 use Rattle.start.proofs.drop_repeats.Statement.{statement}

@@ -1,14 +1,13 @@
 -- `start::hear_fours` meets its contract. The loop's invariant: the first k heads are heard.
-use mathlib.Core.Path.{_≡_, refl, sym, ap, _∙_, subst}
+use mathlib.Core.Path.{_≡_, refl, ap}
 use mathlib.Core.Bool.{Bool, true}
-use mathlib.Core.Logic.{_⊎_, inl, inr}
-use mathlib.Core.List.{List, [], _∷_, List·Memᴰ, List·Memᴰ·not-nil, List·Memᴰ·cases-cons}
+use mathlib.Core.List.{[]}
 use Prim.Native.Nat.{ℕ, _+_, _-_, _%_, _≤_, _<_}
 use native.Mathlib.Omega.{arith}
 use denote.Ref.{now}
 use lib.ListN.{getD, take}
 use Rattle.knowledge.specs.Inner.Lines.{Kept}
-use Rattle.start.specs.Inner.Hearing.{Held, fourFrom}
+use Rattle.start.specs.Inner.Hearing.{Held}
 use Rattle.start.proofs.Laws.Hearing.{held-none, held-same, take-four, four-live}
 use borrow.Author.Needs.{needs}
 use Rattle.start.proofs.hear_fours.Statement.{statement}

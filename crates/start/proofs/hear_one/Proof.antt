@@ -1,5 +1,5 @@
 -- `start::hear_one` meets its contract: the line that was read goes into the state.
-use mathlib.Core.Path.{_≡_, refl, sym, ap, _∙_}
+use mathlib.Core.Path.{refl}
 use mathlib.Core.List.{List·Memᴰ·head}
 use native.Mathlib.Omega.{arith}
 use Rattle.deduction.specs.Elimination.{learnAll, nothing}

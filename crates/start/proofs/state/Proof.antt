@@ -1,11 +1,11 @@
 -- `start::state` meets its contract: the public atoms are listed, then the messages, and each is heard once in that order.
-use mathlib.Core.Path.{_≡_, sym, ap, _∙_, subst}
+use mathlib.Core.Path.{_≡_, ap, _∙_, subst}
 use mathlib.Core.Bool.{Bool, true}
 use mathlib.Core.List.{List, []}
 use Prim.Native.Nat.{ℕ, _≤_, _<_}
 use native.Mathlib.Omega.{arith}
 use denote.Ref.{now}
-use lib.ListN.{length, getD, take}
+use lib.ListN.{getD, take}
 use Rattle.deduction.specs.Elimination.{Knowledge, learnAll, nothing}
 use Rattle.deduction.specs.Standard.{setAt}
 use Rattle.deduction.specs.Run.{knowledge}

@@ -23,12 +23,12 @@ use Rattle.derive.specs.Bytes.{stepsBytes}
 use Rattle.derive.specs.Inner.Ran.{verdictOf}
 use Rattle.derive.specs.declared.run.Ended.{Ended}
 use Rattle.derive.specs.declared.run.Verdict as program
-use Rattle.verdict.specs.Buffer.{front, gainedIn, usedIn, remainderIn, stepsIn}
+use Rattle.verdict.specs.Buffer.{front, gainedIn, stepsIn}
 use Rattle.verdict.specs.Refused.{refusalOf}
 use Rattle.verdict.specs.Demands.{verdictCode, Meets, Demanded}
-use Rattle.verdict.specs.Answer.{outcomeOf, answerOf, missingOf, frontOf, bufferOf}
+use Rattle.verdict.specs.Answer.{outcomeOf, answerOf, frontOf, bufferOf}
 use Rattle.verdict.specs.Inner.Decide.{Decided}
-use Rattle.verdict.proofs.Laws.Demands.{few-steps, known-read, missing-read, steps-read, run-ends, run-is-course, meets}
+use Rattle.verdict.proofs.Laws.Demands.{few-steps, known-read, steps-read, run-ends, run-is-course, meets}
 
 module _ (limit : ℕ) (s : List ℕ) (cut budget space : ℕ) where
   row8 : ℕ
@@ -169,11 +169,6 @@ module _ (on : Setting) (limit : ℕ) (s : List ℕ) (cut budget : ℕ) (old : L
   accepted-known =
       ap gainedIn accepted-buffer
       ∙ known-read on s cut budget (ok-sheet limit s cut budget (length old) ok) (ok-cut limit s cut budget (length old) ok) (stepsBytes (o .steps) ++ drop (front + 40 * length (o .steps)) old)
-
-  pub accepted-missing : (usedIn (bufferOf on limit s cut budget old) ≡ missingOf on s cut budget .used) × (remainderIn (bufferOf on limit s cut budget old) ≡ missingOf on s cut budget .remainder)
-  accepted-missing =
-      let (used, remainder) = missing-read on s cut budget (ok-sheet limit s cut budget (length old) ok) (ok-cut limit s cut budget (length old) ok) (stepsBytes (o .steps) ++ drop (front + 40 * length (o .steps)) old) in
-      (ap usedIn accepted-buffer ∙ used, ap remainderIn accepted-buffer ∙ remainder)
 
   pub accepted-steps : stepsIn (bufferOf on limit s cut budget old) (length (o .steps)) ≡ o .steps
   accepted-steps =

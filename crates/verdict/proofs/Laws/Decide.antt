@@ -1,15 +1,15 @@
 -- From the run over the tables to the verdict on a sheet. Assumes nothing.
-use mathlib.Core.Path.{_≡_, refl, sym, ap, ap₂, _∙_}
+use mathlib.Core.Path.{_≡_, refl, ap, ap₂, _∙_}
 use mathlib.Core.Bool.{true, _&&_}
 use mathlib.Core.List.{List, [], _∷_, _++_}
-use Prim.Native.Nat.{ℕ, zero, suc, _+_, _*_, _^_, _≤_, _<_}
-use native.Mathlib.Nat.{le-trans, le-of-eq}
+use Prim.Native.Nat.{ℕ, zero, suc, _+_, _*_, _≤_, _<_}
 use native.Mathlib.Omega.{arith}
-use lib.ListN.{length, getD, take, drop, replicate, length-append}
+use lib.ListN.{length, getD, take, drop, replicate}
 use lib.Seq.{drop-at, length-take-le}
 use borrow.Author.Tests.{eq-eqb, lt-ltb}
 use Rattle.bitset.specs.Words.{packed, value}
 use Rattle.bitset.specs.Inner.{FourWords}
+use Rattle.bitset.proofs.Laws.Words.{words-zero}
 use Rattle.deduction.specs.Setting.{Setting}
 use Rattle.deduction.specs.Standard.{setAt, repAt}
 use Rattle.deduction.specs.Elimination.{reduce}
@@ -20,7 +20,7 @@ use Rattle.dag.specs.Sheet.{countOf, goalOf}
 use Rattle.dag.specs.Record.{entryAt}
 use Rattle.knowledge.specs.Inner.Lines.{setIn, lineAt, headIn}
 use Rattle.derive.specs.Bytes.{stepsBytes}
-use Rattle.derive.specs.Inner.Machine.{Ended, machine}
+use Rattle.derive.specs.Inner.Machine.{Ended}
 use Rattle.derive.specs.Inner.Ran.{verdictOf, endOf, Ran}
 use Rattle.derive.specs.declared.run.Ended as program
 use Rattle.derive.proofs.Laws.Machine.{asEnded, machine-run}
@@ -30,7 +30,7 @@ use Rattle.start.specs.Start.{startHeads}
 use Rattle.verdict.specs.Inner.Decide.{reducedOf, missingIn, Decided}
 use Rattle.verdict.proofs.Laws.Front.{missing-by-rows}
 
--- the empty set, and a table of empty sets
+-- the empty set's words, a table of empty sets, and the words' bounds
 pub value-zero : value (0 ∷ 0 ∷ 0 ∷ 0 ∷ []) ≡ 0
 unfolding packed
 value-zero = refl
@@ -41,16 +41,8 @@ table-zero zero x z i = refl
 table-zero (suc n) x z zero = z
 table-zero (suc n) x z (suc i) = table-zero n x z i
 
--- four words of zeros
-pub words-zero : FourWords (0 ∷ 0 ∷ 0 ∷ 0 ∷ [])
-words-zero = record { four = refl; below = below }
-  where
-    below : (i : ℕ) → getD (0 ∷ 0 ∷ 0 ∷ 0 ∷ []) i 0 < 2 ^ 64
-    below zero = omega arith
-    below (suc zero) = omega arith
-    below (suc (suc zero)) = omega arith
-    below (suc (suc (suc zero))) = omega arith
-    below (suc (suc (suc (suc i)))) = omega arith
+pub four-zero : FourWords (0 ∷ 0 ∷ 0 ∷ 0 ∷ [])
+four-zero = record { four = refl; below = λ i. omega (arith, words-zero i) }
 
 module _ (on : Setting) (s : List ℕ) (cut budget : ℕ) where
   ends : endOf on s budget (knowledge (entryAt s) (startHeads s cut)) ≡ asEnded (entryAt s) (outcomeOf on s cut budget)

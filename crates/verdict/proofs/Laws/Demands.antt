@@ -176,14 +176,14 @@ module _ (on : Setting) (s : List ℕ) (cut budget : ℕ) (ok : refusal s ≡ 0)
   unfolding frontOf
   known-read rest = gained-read gained (missingOf on s cut budget .used) (missingOf on s cut budget .remainder) rest run-below
 
-  pub missing-read : (rest : List ℕ) → (usedIn (frontOf on s cut budget ++ rest) ≡ missingOf on s cut budget .used) × (remainderIn (frontOf on s cut budget ++ rest) ≡ missingOf on s cut budget .remainder)
+  missing-read : (rest : List ℕ) → (usedIn (frontOf on s cut budget ++ rest) ≡ missingOf on s cut budget .used) × (remainderIn (frontOf on s cut budget ++ rest) ≡ missingOf on s cut budget .remainder)
   unfolding frontOf
   missing-read rest = (
     used-read gained (missingOf on s cut budget .used) (missingOf on s cut budget .remainder) rest (missing-narrow .0),
     remainder-read gained (missingOf on s cut budget .used) (missingOf on s cut budget .remainder) rest (missing-narrow .1),
   )
 
-  pub front-size : length (frontOf on s cut budget) ≡ front
+  front-size : length (frontOf on s cut budget) ≡ front
   unfolding frontOf
   front-size = front-length gained (missingOf on s cut budget .used) (missingOf on s cut budget .remainder)
 

@@ -127,7 +127,7 @@ below-bytes (suc n) s = below-snoc (bytesOf n s) (byteOf s n) (below-bytes n s) 
     small x = omega arith
 
 -- the bytes of the set that bytes hold
-pub bytes-back : (l : List ℕ) (n : ℕ) → length l ≡ n → Below 8 l → bytesOf n (setOf l) ≡ l
+bytes-back : (l : List ℕ) (n : ℕ) → length l ≡ n → Below 8 l → bytesOf n (setOf l) ≡ l
 bytes-back l n p h =
     packed-injective 8 (bytesOf n (setOf l)) l (length-bytesOf n (setOf l) ∙ sym p) (below-bytes n (setOf l)) h
     (setOf-bytesOf n (setOf l) ∙ mod-eq-of-lt (subst (λ (k : ℕ). setOf l < 2 ^ (k * 8)) p (packed-lt 8 l h)))
@@ -172,7 +172,7 @@ step-back l r h =
     ∙ sym (ap (take 40) (eight l (le-trans (omega arith) r)))
 
 -- all steps
-pub steps-back : (out : List ℕ) (k : ℕ) → front + 40 * k ≤ length out → Below 8 out → stepsBytes (stepsIn out k) ≡ take (40 * k) (drop front out)
+steps-back : (out : List ℕ) (k : ℕ) → front + 40 * k ≤ length out → Below 8 out → stepsBytes (stepsIn out k) ≡ take (40 * k) (drop front out)
 unfolding stepsIn stepsBytes
 steps-back out zero r h = refl
 steps-back out (suc k) r h =

@@ -2,7 +2,7 @@
 use mathlib.Core.Path.{refl}
 use mathlib.Core.List.{[], _∷_}
 use native.Mathlib.Omega.{arith}
-use Rattle.verdict.proofs.Laws.Decide.{value-zero, table-zero, words-zero}
+use Rattle.verdict.proofs.Laws.Decide.{value-zero, table-zero, four-zero}
 use borrow.Author.Needs.{needs}
 use Rattle.verdict.proofs.decide.Statement.{statement}
 use Rattle.verdict.proofs.decide.Tie as tie
@@ -17,7 +17,7 @@ state-requires c κs = let t = c .before .before .before .before .before .before
       within = s .pre .1;
       key = e .right .key;
       rep = e .right .rep;
-      sizes = record { remainders = e .sized .set; used = refl; empty = words-zero };
+      sizes = record { remainders = e .sized .set; used = refl; empty = four-zero };
       size = refl;
       fresh = e .right .set;
       unused = table-zero 256 (0 ∷ 0 ∷ 0 ∷ 0 ∷ []) value-zero;

@@ -1,17 +1,15 @@
 -- `knowledge::Knowledge::hear` meets its contract: the entry joins the known set, and its remainder the rows.
 use mathlib.Core.Path.{_≡_, refl, sym, ap, _∙_}
 use mathlib.Core.Bool.{Bool, true, false, true≢false}
-use Prim.Native.Nat.{ℕ, _<_}
+use Prim.Native.Nat.{_<_}
 use native.Mathlib.Omega.{arith}
 use mir.Syntax.{w64}
 use mir.Val.{Fits}
 use lib.Dec.{eqb}
-use lib.ListN.{length, getD}
-use borrow.Author.Tests.{eqb-true, eq-eqb, not-true, not-false}
+use lib.ListN.{getD}
+use borrow.Author.Tests.{eq-eqb, not-true, not-false}
 use Rattle.bitset.specs.Set.{member}
 use Rattle.bitset.specs.Words.{value}
-use Rattle.bitset.proofs.Laws.Words.{Below}
-use Rattle.deduction.specs.Elimination.{Knowledge}
 use Rattle.knowledge.proofs.Laws.Learn.{heard-none, heard-row, room-same, room-more, room-place}
 use borrow.Author.Needs.{needs}
 use Rattle.knowledge.proofs.Knowledge.hear.Statement.{statement}

@@ -2,8 +2,7 @@
 use native.Mathlib.Omega.{arith}
 use denote.Ref.{now}
 use lib.ListN.{length-set}
-use mathlib.Core.Path.{_≡_, sym, _∙_}
-use mathlib.Core.Bool.{true, false}
+use mathlib.Core.Path.{sym, _∙_}
 use Rattle.bitset.specs.Words.{value}
 use Rattle.knowledge.proofs.Laws.Added.{one-line, one-emptied, one-kept}
 use borrow.Author.Needs.{needs}

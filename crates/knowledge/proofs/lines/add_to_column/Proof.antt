@@ -8,7 +8,7 @@ use lib.ListN.{length, getD}
 use Rattle.bitset.specs.Words.{value}
 use Rattle.bitset.proofs.Laws.Words.{Below}
 use Rattle.bitset.proofs.Laws.Bits.{bits-four}
-use Rattle.knowledge.proofs.Laws.Added.{Tables, Adds, adds-none, adds-both}
+use Rattle.knowledge.proofs.Laws.Added.{Adds, adds-none, adds-both}
 use borrow.Author.Needs.{needs}
 use Rattle.knowledge.proofs.lines.add_to_column.Statement.{statement}
 use Rattle.knowledge.proofs.lines.add_to_column.Tie as tie

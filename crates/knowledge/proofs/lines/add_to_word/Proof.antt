@@ -1,11 +1,11 @@
 -- `knowledge::lines::add_to_word` meets its contract. The loop's invariant: the lines that left the word are done.
 use native.Mathlib.Omega.{arith}
-use Prim.Native.Nat.{ℕ, _*_, _^_}
+use Prim.Native.Nat.{_*_, _^_}
 use denote.Ref.{now}
 use lib.Bits.{bitXor}
 use Rattle.bitset.specs.Words.{value}
 use Rattle.bitset.proofs.Laws.Bits.{Left, left-start, left-less, left-again, left-within, bits-start, bits-again, bits-end}
-use Rattle.knowledge.proofs.Laws.Added.{Tables, Adds, adds-none, adds-both}
+use Rattle.knowledge.proofs.Laws.Added.{Adds, adds-none, adds-both}
 use borrow.Author.Needs.{needs}
 use Rattle.knowledge.proofs.lines.add_to_word.Statement.{statement}
 use Rattle.knowledge.proofs.lines.add_to_word.Tie as tie

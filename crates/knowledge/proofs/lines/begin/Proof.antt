@@ -1,13 +1,9 @@
 -- `knowledge::lines::begin` meets its contract. The loop's invariant: the first i lines are in the columns.
-use mathlib.Core.Path.{_≡_, refl, sym, ap, _∙_, subst}
-use mathlib.Core.List.{[]}
+use mathlib.Core.Path.{subst}
 use Prim.Native.Nat.{ℕ, _-_, _≤_}
 use native.Mathlib.Omega.{arith}
 use denote.Ref.{now}
-use lib.Dec.{eqb}
-use lib.ListN.{getD}
-use Rattle.bitset.specs.Words.{value}
-use Rattle.knowledge.specs.Inner.Lines.{setIn, Entered, Begun}
+use Rattle.knowledge.specs.Inner.Lines.{Begun}
 use Rattle.knowledge.proofs.Laws.Lines.{begun-none, begun-more}
 use borrow.Author.Needs.{needs}
 use Rattle.knowledge.proofs.lines.begin.Statement.{statement}

@@ -2,7 +2,7 @@
 use native.Mathlib.Omega.{arith}
 use denote.Ref.{now}
 use lib.ListN.{length-set}
-use mathlib.Core.Path.{_≡_, _∙_}
+use mathlib.Core.Path.{_∙_}
 use Rattle.bitset.specs.Words.{value}
 use Rattle.knowledge.proofs.Laws.Added.{one-column}
 use borrow.Author.Needs.{needs}

@@ -1,6 +1,6 @@
 -- `knowledge::lines::flip_word` meets its contract. The loop's invariant: the columns that left the word are done.
 use native.Mathlib.Omega.{arith}
-use Prim.Native.Nat.{ℕ, _*_, _^_}
+use Prim.Native.Nat.{_*_, _^_}
 use denote.Ref.{now}
 use lib.Bits.{bitXor}
 use Rattle.bitset.specs.Words.{value}

@@ -1,12 +1,8 @@
 -- `knowledge::lines::sweep` meets its contract: the line is the new row, or nothing is left of it.
-use mathlib.Core.Path.{_≡_, refl, sym, ap, _∙_}
-use mathlib.Core.List.{[]}
-use mathlib.Core.Bool.{Bool, not}
-use Prim.Native.Nat.{ℕ}
+use mathlib.Core.Path.{refl, sym, ap, _∙_}
 use native.Mathlib.Omega.{arith}
 use denote.Ref.{now}
 use lib.Bits.{bitXor}
-use lib.ListN.{getD}
 use Rattle.bitset.specs.Words.{value}
 use Rattle.knowledge.specs.Inner.Lines.{setIn}
 use Rattle.knowledge.proofs.Laws.Lines.{kept-learnt, kept-idle}
