@@ -3,7 +3,10 @@ ghost use mathlib.Core.Path.{_≡_};
 ghost use Prim.Native.Nat.{ℕ, _+_, _*_, _≤_};
 ghost use lib.ListN.{length};
 ghost use Rattle.deduction.specs.Setting.{every, switches};
-ghost use Rattle.dag.specs.Sheet.{traceLength};
+ghost use Rattle.bitset.specs.Words.{value};
+ghost use Rattle.deduction.specs.Standard.{setAt};
+ghost use Rattle.dag.specs.Sheet.{goalOf, traceLength};
+ghost use Rattle.dag.specs.Record.{entryAt};
 ghost use Rattle.dag.specs.Refusal.{refusal};
 ghost use Rattle.dag.specs.Code.{codeOf};
 ghost use Rattle.verdict.specs.Buffer.{front};
@@ -14,7 +17,7 @@ ghost use Rattle.verdict.specs.Answer.{answerOf, bufferOf};
 ghost use Rattle.verdict.specs.Code.{numberOf, madeIn};
 ghost use Rattle.knowledge.specs.Inner.Lines.{lineAt};
 ghost use Rattle.derive.specs.Inner.Ran.{Ready};
-ghost use Rattle.verdict.specs.Inner.Decide.{reducedOf, SetsOf, AtStart, Decided};
+ghost use Rattle.verdict.specs.Inner.Decide.{reducedOf, AtStart, Decided};
 use dag::Refusal;
 use dag::sheet;
 use derive::rules;
@@ -51,12 +54,12 @@ fn line_of(remainders: &[[u64; 4]; 256], used: &[[u64; 4]; 256], k: u8) -> Reduc
     }
 }
 
-// The run by the rules switched on, from a known set and the lines by it. Its steps, and what stands before them, are written to out.
+// The run by the rules switched on, from a known set and the lines by it; set is the goal's. Its steps, and what stands before them, are written to out.
 fn run_from(
     s: &[u8],
     keys: &[u64; 256],
-    sets: &[[u64; 4]; 256],
     reps: &[u8; 256],
+    set: [u64; 4],
     known: [u64; 4],
     remainders: &mut [[u64; 4]; 256],
     used: &mut [[u64; 4]; 256],
@@ -66,7 +69,7 @@ fn run_from(
     rules: u8,
     out: &mut [u8],
 ) -> Ended
-    requires { ⌜ Ready (now s) (now keys) (now reps) (now remainders) (now used) (now columns) (now empty) budget front (now out) × SetsOf (now s) (now sets) ⌝ }
+    requires { ⌜ Ready (now s) (now keys) (now reps) (now remainders) (now used) (now columns) (now empty) budget front (now out) × (value set ≡ setAt (entryAt (now s)) (goalOf (now s))) ⌝ }
     ensures { λ r. ⌜ ((cut : ℕ) → AtStart (now (s .entry)) cut (now (reps .entry)) known (now (remainders .entry)) (now (used .entry)) (now (columns .entry)) (now (empty .entry)) → Decided (switches rules) (now (s .entry)) cut budget (now (out .entry)) (now (out .exit)) r) ⌝ }
 {
     let ended = derive::run::run(
@@ -87,7 +90,7 @@ fn run_from(
     let gained = ended.known;
     let goal = sheet::goal(s) as usize;
     let line = line_of(remainders, used, reps[goal]);
-    let missing = front::missing(verdict, rules, line, sets[goal]);
+    let missing = front::missing(verdict, rules, line, set);
     front::write_front(gained, missing, out);
     ended
 }
@@ -98,10 +101,10 @@ fn decide(s: &[u8], cut: u16, budget: u16, rules: u8, out: &mut [u8]) -> Ended
     ensures { λ r. ⌜ Decided (switches rules) (now (s .entry)) cut budget (now (out .entry)) (now (out .exit)) r ⌝ }
 {
     let mut keys = [0u64; 256];
-    let mut sets = [[0u64; 4]; 256];
+    let mut remainders = [[0u64; 4]; 256];
     let mut reps = [0u8; 256];
-    canonical::tables(s, &mut keys, &mut sets, &mut reps);
-    let mut remainders = sets;
+    canonical::tables(s, &mut keys, &mut remainders, &mut reps);
+    let set = remainders[sheet::goal(s) as usize];
     let mut used = [[0u64; 4]; 256];
     let mut columns = [[0u64; 4]; 256];
     let mut empty: [u64; 4] = [0, 0, 0, 0];
@@ -119,8 +122,8 @@ fn decide(s: &[u8], cut: u16, budget: u16, rules: u8, out: &mut [u8]) -> Ended
     run_from(
         s,
         &keys,
-        &sets,
         &reps,
+        set,
         known,
         &mut remainders,
         &mut used,

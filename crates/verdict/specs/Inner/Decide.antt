@@ -1,6 +1,6 @@
 -- What the inner functions that decide hand back. Defined: `reducedOf`, what is left of a set; `isUnderivable`, is the goal out
--- of reach; `missingIn`, what is missing by a line; `SetsOf`, a table of sets; `AtStart`, known set and lines at the start; `Decided`, the verdict on a good sheet.
-use Prim.Native.Nat.{ℕ, _+_, _*_, _<_}
+-- of reach; `missingIn`, what is missing by a line; `AtStart`, known set and lines at the start; `Decided`, the verdict on a good sheet.
+use Prim.Native.Nat.{ℕ, _+_, _*_}
 use mathlib.Core.Path.{_≡_}
 use mathlib.Core.Bool.{Bool, true, false, cond}
 use mathlib.Core.List.{List, _++_}
@@ -8,11 +8,8 @@ use lib.ListN.{length, drop}
 use Rattle.deduction.specs.Setting.{Setting}
 use Rattle.bitset.specs.Words.{value}
 use Rattle.deduction.specs.Elimination.{Reduced}
-use Rattle.deduction.specs.Standard.{setAt}
 use Rattle.deduction.specs.Run.{Verdict, derivable, underivable, exhausted, knowledge}
-use Rattle.dag.specs.Sheet.{countOf}
 use Rattle.dag.specs.Record.{entryAt}
-use Rattle.knowledge.specs.Inner.Lines.{setIn}
 use Rattle.start.specs.Start.{startHeads}
 use Rattle.derive.specs.Inner.Ran.{verdictOf, LinesOf}
 use Rattle.derive.specs.Bytes.{stepsBytes}
@@ -32,10 +29,6 @@ isUnderivable exhausted = false
 -- what is missing of an entry with this line and the set v: the line, or without the sum rule the set itself
 unfoldable pub missingIn : Setting → Reduced → ℕ → Reduced
 missingIn on line v = cond (on 6) line (record { remainder = v; used = 0 })
-
--- the table has the sets of a sheet's entries
-abbrev pub SetsOf : List ℕ → List (List ℕ) → Type 0
-SetsOf s sets = (i : ℕ) → i < countOf s → setIn sets i ≡ setAt (entryAt s) i
 
 -- the known set and the lines are those of what is gained at the start
 pub record AtStart (s : List ℕ) (cut : ℕ) (reps known : List ℕ) (remainders used columns : List (List ℕ)) (empty : List ℕ) : Type 0 where
