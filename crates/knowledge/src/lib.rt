@@ -9,7 +9,7 @@ ghost use Rattle.bitset.specs.Set.{member};
 ghost use Rattle.bitset.specs.Words.{value};
 ghost use Rattle.deduction.specs.Elimination.{nothing};
 ghost use Rattle.knowledge.specs.Inner.Words.{wordsAt, SameOutside};
-ghost use Rattle.knowledge.specs.Inner.State.{Room, Holds, Heard};
+ghost use Rattle.knowledge.specs.Inner.State.{Room, Holds, Stored};
 
 pub mod lines;
 
@@ -52,7 +52,7 @@ impl Knowledge {
     pub fn hear(mut self, e: u8, remainder: [u64; 4]) -> Self
         requires { ⌜ Room (self .known) (self .len) ⌝ }
         requires { ⌜ (member (value (self .known)) e ≡ true → value remainder ≡ 0) ⌝ }
-        ensures state { λ r. ⌜ Heard e (value remainder) (self .known) (self .rows) (self .len) (r .known) (r .rows) (r .len) ⌝ }
+        ensures state { λ r. ⌜ Stored e (value remainder) (self .known) (self .rows) (self .len) (r .known) (r .rows) (r .len) ⌝ }
         ensures room { λ r. ⌜ Room (r .known) (r .len) ⌝ }
     {
         let known = self.known;

@@ -96,7 +96,7 @@ fn keep_new(list: &mut [u8; 512], seen: &mut [u64; 4], k: usize, end: usize) -> 
     end + 1
 }
 
-// Drops every head that stands before it among the first len of the list. Hands back how many are left: these are what there is to hear.
+// Of the first len of the list, drops each head that stands there before. Hands back how many are left: these are what there is to hear.
 fn drop_repeats(list: &mut [u8; 512], len: usize) -> usize
     requires { ⌜ (length (now list) ≡ 512) × (len ≤ 512) ⌝ }
     ensures { λ r. ⌜ Dropped len (now (list .entry)) (now (list .exit)) r ⌝ }

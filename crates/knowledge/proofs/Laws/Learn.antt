@@ -1,4 +1,4 @@
--- Learning an entry, by its ways, and the room for its row. Assumes nothing.
+-- What hearing an entry stores (`stored-none`, `stored-row`); that with the right remainder the entry is then learnt (`stored-holds`); the room for its row. Assumes nothing.
 use mathlib.Core.Path.{_≡_, refl, sym, ap, ap₂, _∙_, subst}
 use mathlib.Core.Bool.{Bool, true, false, cond}
 use mathlib.Core.List.{List, [], _∷_, _++_, map, append-nil}
@@ -16,7 +16,7 @@ use Rattle.bitset.proofs.Laws.Bytes.{packed-lt}
 use Rattle.bitset.proofs.Laws.Sums.{ones-insert}
 use Rattle.deduction.specs.Elimination.{Row, Knowledge, reduce, addRow, nothing, learnAs}
 use Rattle.knowledge.specs.Inner.Words.{wordsAt, vectorsOf, SameOutside}
-use Rattle.knowledge.specs.Inner.State.{Room, Holds, Heard}
+use Rattle.knowledge.specs.Inner.State.{Room, Holds, Stored}
 use Rattle.knowledge.proofs.Laws.Store.{same-refl}
 use Rattle.knowledge.proofs.Laws.Vectors.{vectors-more, vectors-kept}
 
@@ -64,16 +64,16 @@ vectors-append (x ∷ rows) r = ap (λ (l : List ℕ). x .vector ∷ l) (vectors
 
 -- what is stored where nothing is left of an entry, and where something is
 module _ (e remainder : ℕ) (known ws : List ℕ) (len : ℕ) (more : List ℕ) (q : value more ≡ insert (value known) e) where
-  pub heard-none : eqb remainder 0 ≡ true → Heard e remainder known ws len more ws len
-  heard-none z = record {
+  pub stored-none : eqb remainder 0 ≡ true → Stored e remainder known ws len more ws len
+  stored-none z = record {
     known = q;
     count = rw z;
     rows = rw z (sym (append-nil (vectorsOf ws len)));
     others = same-refl (4 * len) (4 * len) ws;
   }
 
-  pub heard-row : (vs : List ℕ) → eqb remainder 0 ≡ false → SameOutside (4 * len) (4 * len + 4) ws vs → value (wordsAt vs (4 * len)) ≡ remainder → Heard e remainder known ws len more vs (len + 1)
-  heard-row vs z kept own = record {
+  pub stored-row : (vs : List ℕ) → eqb remainder 0 ≡ false → SameOutside (4 * len) (4 * len + 4) ws vs → value (wordsAt vs (4 * len)) ≡ remainder → Stored e remainder known ws len more vs (len + 1)
+  stored-row vs z kept own = record {
     known = q;
     count = rw z;
     rows = rw z (vectors-more vs len ∙ ap₂ (λ (l : List ℕ) (x : ℕ). l ++ (x ∷ [])) (vectors-kept len (omega arith) kept) own);
@@ -81,9 +81,9 @@ module _ (e remainder : ℕ) (known ws : List ℕ) (len : ℕ) (more : List ℕ)
   }
 
 -- with the remainder that the rows leave of e's set v, the words hold the state with e learnt
-pub heard-holds : (k : Knowledge) (v : ℕ) {e remainder : ℕ} {g ws : List ℕ} {len : ℕ} {g′ ws′ : List ℕ} {len′ : ℕ} → Heard e remainder g ws len g′ ws′ len′ → Holds k g ws len
+pub stored-holds : (k : Knowledge) (v : ℕ) {e remainder : ℕ} {g ws : List ℕ} {len : ℕ} {g′ ws′ : List ℕ} {len′ : ℕ} → Stored e remainder g ws len g′ ws′ len′ → Holds k g ws len
     → remainder ≡ reduce (k .rows) v .remainder → (member (value g) e ≡ true → remainder ≡ 0) → Holds (learnAs k e v) g′ ws′ len′
-heard-holds k v {e} {remainder} {g} {ws} {len} {g′} {ws′} {len′} h holds p old = record {
+stored-holds k v {e} {remainder} {g} {ws} {len} {g′} {ws′} {len′} h holds p old = record {
   known = h .known ∙ ap (λ (x : ℕ). insert x e) (holds .known) ∙ sym (learn-known k e v);
   rows = h .rows ∙ ap (λ (l : List ℕ). l ++ cond (eqb remainder 0) [] (remainder ∷ [])) (holds .rows) ∙ go (eqb remainder 0) refl
       ∙ ap (map (λ (x : Row). x .vector)) (sym (learn-rows k e v (λ m. sym p ∙ old (ap (λ (x : ℕ). member x e) (holds .known) ∙ m))));

@@ -1,5 +1,5 @@
 -- The state in memory, read as that of Elimination.antt of `deduction`.
--- Defined: `Room`, a place for one more row; `Holds`, the words hold a state; `Heard`, what hearing an entry stores.
+-- Defined: `Room`, a place for one more row; `Holds`, the words hold a state; `Stored`, what hearing an entry stores.
 use Prim.Native.Nat.{ℕ, _+_, _*_, _≤_}
 use mathlib.Core.Path.{_≡_}
 use mathlib.Core.Bool.{cond}
@@ -21,7 +21,7 @@ pub record Holds (k : Knowledge) (g ws : List ℕ) (len : ℕ) : Type 0 where
   pub rows : vectorsOf ws len ≡ map (λ (r : Row). r .vector) (k .rows)
 
 -- e joins the known set, the remainder is a row behind the others unless it is empty, and every other word of the rows is as it was
-pub record Heard (e remainder : ℕ) (g ws : List ℕ) (len : ℕ) (g′ ws′ : List ℕ) (len′ : ℕ) : Type 0 where
+pub record Stored (e remainder : ℕ) (g ws : List ℕ) (len : ℕ) (g′ ws′ : List ℕ) (len′ : ℕ) : Type 0 where
   pub known : value g′ ≡ insert (value g) e
   pub count : len′ ≡ cond (eqb remainder 0) len (len + 1)
   pub rows : vectorsOf ws′ len′ ≡ vectorsOf ws len ++ cond (eqb remainder 0) [] (remainder ∷ [])

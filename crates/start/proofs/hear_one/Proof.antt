@@ -3,7 +3,7 @@ use mathlib.Core.Path.{refl}
 use mathlib.Core.List.{List·Memᴰ·head}
 use native.Mathlib.Omega.{arith}
 use Rattle.deduction.specs.Elimination.{learnAll, nothing}
-use Rattle.knowledge.proofs.Laws.Learn.{heard-holds}
+use Rattle.knowledge.proofs.Laws.Learn.{stored-holds}
 use Rattle.start.proofs.Laws.Hearing.{held-line, held-known, held-more}
 use borrow.Author.Needs.{needs}
 use Rattle.start.proofs.hear_one.Statement.{statement}
@@ -24,7 +24,7 @@ hear-requires c κs = let s = c .before .before .before .before .before .before 
 returns : tie.Need-returns
 returns c = let s = c .before .before .before .before .before .before .before in let e = s .args .e in
     λ live f es lives h. let l = lives e (List·Memᴰ·head refl) in
-    held-more h e l (omega arith) (c .hear .result) (heard-holds (learnAll f nothing es) (f e) (c .hear .ensures .0) (h .state) (held-line h e l) (held-known h e l)) (c .hear .ensures .1) (c .before .sweep .ensures .1 live f (learnAll f nothing es .rows) l (h .kept))
+    held-more h e l (omega arith) (c .hear .result) (stored-holds (learnAll f nothing es) (f e) (c .hear .ensures .0) (h .state) (held-line h e l) (held-known h e l)) (c .hear .ensures .1) (c .before .sweep .ensures .1 live f (learnAll f nothing es .rows) l (h .kept))
 
 pub hear-one-spec : {M : Type 1} → statement M
 hear-one-spec =

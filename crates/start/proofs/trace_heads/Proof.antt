@@ -2,7 +2,6 @@
 use mathlib.Core.Path.{_≡_, sym, ap, _∙_, subst}
 use mathlib.Core.List.{[], _∷_, _++_, map}
 use Prim.Native.Nat.{ℕ, _+_, _-_, _≤_, _<_}
-use native.Mathlib.Nat.{le-trans}
 use native.Mathlib.Omega.{arith}
 use lib.ListN.{length, getD, take, length-set}
 use denote.Ref.{now}
@@ -26,7 +25,7 @@ abbrev μ-loop : tie.MeasureT-loop
 -- a message before the cut is an entry, and there is room for its head
 listed-below : (c : tie.In-loop Inv-loop μ-loop) → let s = c .before .before .before in traceAt (now (s .args .s)) (c .before .loop .k) < countOf (now (s .args .s))
 listed-below c = let s = c .before .before .before in
-    good (now (s .args .s)) (s .pre .0 .good) .listed (c .before .loop .k) (le-trans (c .loop-test .taken) (s .pre .1))
+    good (now (s .args .s)) (s .pre .0 .good) .listed (c .before .loop .k) (omega (arith, c .loop-test .taken, s .pre .1))
 
 room : (c : tie.In-loop Inv-loop μ-loop) → c .before .loop .end < 512
 room c = let s = c .before .before .before in

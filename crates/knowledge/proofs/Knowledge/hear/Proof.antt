@@ -10,7 +10,7 @@ use lib.ListN.{getD}
 use borrow.Author.Tests.{eq-eqb, not-true, not-false}
 use Rattle.bitset.specs.Set.{member}
 use Rattle.bitset.specs.Words.{value}
-use Rattle.knowledge.proofs.Laws.Learn.{heard-none, heard-row, room-same, room-more, room-place}
+use Rattle.knowledge.proofs.Laws.Learn.{stored-none, stored-row, room-same, room-more, room-place}
 use borrow.Author.Needs.{needs}
 use Rattle.knowledge.proofs.Knowledge.hear.Statement.{statement}
 use Rattle.knowledge.proofs.Knowledge.hear.Tie as tie
@@ -49,13 +49,13 @@ add-self c = record { fits = omega (arith, place (c .before .before)) }
 
 returns : tie.Need-returns
 returns c = let s = c .before .before .before .before .before .before in let t = s .args .t1 in let i = c .before .before .before .before .insert in let x = c .before .before in (
-  heard-row (s .args .e) (value (s .args .remainder)) (t .known) (t .rows) (t .len) (i .result) (i .ensures) _ (some x) (c .put .ensures .1) (ap value (c .put .ensures .0)),
+  stored-row (s .args .e) (value (s .args .remainder)) (t .known) (t .rows) (t .len) (i .result) (i .ensures) _ (some x) (c .put .ensures .1) (ap value (c .put .ensures .0)),
   room-more (t .known) (i .result) (t .len) (s .args .e) (i .ensures) (s .pre .0) (new x),
 )
 
 returns-2 : tie.Need-returns-2
 returns-2 c = let s = c .before .before .before .before in let t = s .args .t1 in let i = c .before .before .insert in (
-  heard-none (s .args .e) (value (s .args .remainder)) (t .known) (t .rows) (t .len) (i .result) (i .ensures) (sym (c .before .is-empty .ensures) ∙ not-false _ (c .if1 .left)),
+  stored-none (s .args .e) (value (s .args .remainder)) (t .known) (t .rows) (t .len) (i .result) (i .ensures) (sym (c .before .is-empty .ensures) ∙ not-false _ (c .if1 .left)),
   room-same (t .known) (i .result) (t .len) (s .args .e) (i .ensures) (s .pre .0),
 )
 
