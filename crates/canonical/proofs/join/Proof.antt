@@ -1,6 +1,6 @@
 -- `canonical::join` meets its contract: one member more in one bucket.
-use mathlib.Core.Path.{_≡_}
-use Prim.Native.Nat.{_<_}
+use mathlib.Core.Path.{sym, subst}
+use Prim.Native.Nat.{ℕ, _<_}
 use native.Mathlib.Omega.{arith}
 use lib.ListN.{getD}
 use mir.Syntax.{w64}
@@ -14,7 +14,7 @@ use Rattle.canonical.proofs.join.Tie as tie
 
 -- it is one of the 256
 below : (c : tie.After-bucket-of) → c .bucket-of .result < 256
-below c = let a = c .before .args in omega (arith, c .bucket-of .ensures, bucket-below (a .key) (a .set))
+below c = subst (λ (x : ℕ). x < 256) (sym (c .bucket-of .ensures)) (bucket-below _ _)
 
 words : (c : tie.Start) → FourWords (c .args .set)
 words c = record { four = search needs; below = λ i. let f : Fits w64 (getD (c .args .set) i 0) = search needs in f .fits }
