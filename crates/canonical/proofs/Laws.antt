@@ -1,4 +1,5 @@
 pub mod Search
+pub mod Buckets
 pub mod Items
 pub mod Key
 pub mod Record

@@ -5,15 +5,16 @@ ghost use mathlib.Core.List.{List·Memᴰ};
 ghost use Prim.Native.Nat.{ℕ, _+_, _*_, _≤_, _<_, _^_};
 ghost use lib.Dec.{eqb};
 ghost use lib.ListN.{length};
-ghost use Rattle.bitset.specs.Set.{single};
+ghost use Rattle.bitset.specs.Set.{single, leading};
 ghost use Rattle.bitset.specs.Words.{value};
-ghost use Rattle.deduction.specs.Entry.{parts};
-ghost use Rattle.deduction.specs.Standard.{least, xorAll};
+ghost use Rattle.deduction.specs.Entry.{Entry, parts};
+ghost use Rattle.deduction.specs.Standard.{least, xorAll, setAt};
 ghost use Rattle.dag.specs.Sheet.{countOf, listed};
 ghost use Rattle.dag.specs.Record.{itemCount, itemAt, decode, entryAt};
 ghost use Rattle.dag.specs.Refusal.{refusal};
 ghost use Rattle.canonical.specs.Inner.Key.{keyOf, keyAt, keyKind, keyLeft, keyRight, keyOpener, oppositeKey};
-ghost use Rattle.canonical.specs.Inner.Tables.{setIn, numberIn, RightLine, Right, Sized, Filled, openIn, Opened, Finished};
+ghost use Rattle.canonical.specs.Inner.Tables.{setIn, numberIn, RightLine, Right, Sized, Filled, soughtIn, openIn, Opened, Finished};
+ghost use Rattle.canonical.specs.Inner.Buckets.{keyBucket, setBucket, bucketOf, Bucketed, Alone, Candidates, FoundIn};
 use dag::record;
 use dag::sheet;
 
@@ -83,33 +84,114 @@ fn rep_in(reps: &[u8; 256], i: u8) -> u8
     reps[i as usize]
 }
 
-// The lowest entry before n with this key, and n where there is none.
-fn first_key(keys: &[u64; 256], n: u16, key: u64) -> u16
-    requires { ⌜ n ≤ 256 ⌝ }
-    ensures { λ r. ⌜ r ≡ least (λ i. eqb (numberIn (now (keys .entry)) i) key) n ⌝ }
+// The bucket of a key.
+fn key_bucket(key: u64) -> usize
+    ensures { λ r. ⌜ r ≡ keyBucket key ⌝ }
 {
-    let mut k: u16 = 0;
-    while k < n {
-        if keys[k as usize] == key {
-            return k;
+    (key % 251) as usize
+}
+
+// The bucket of a set.
+fn set_bucket(s: [u64; 4]) -> usize
+    ensures { λ r. ⌜ r ≡ setBucket s ⌝ }
+{
+    ((s[0] % 251 + s[1] % 241 + s[2] % 239 + s[3] % 233) % 256) as usize
+}
+
+// The first entry with this key among the members of a word, whose first entry is base; 256 where there is none.
+fn key_in_word(keys: &[u64; 256], word: u64, base: u8, key: u64) -> u16
+    requires { ⌜ base ≤ 192 ⌝ }
+    ensures { λ r. ⌜ FoundIn (λ j. eqb (numberIn (now (keys .entry)) j) key) word base r ⌝ }
+{
+    let mut left = word;
+    while left != 0 {
+        let i = base + bitset::lowest(left);
+        if keys[i as usize] == key {
+            return i as u16;
         }
-        k += 1;
+        left = bitset::rest(left);
+    }
+    256
+}
+
+// The lowest entry before n with this key, and n where there is none. The bucket is the key's.
+fn first_key(keys: &[u64; 256], bucket: [u64; 4], n: u16, key: u64) -> u16
+    requires { ⌜ n ≤ 256 ⌝ }
+    requires { ⌜ Candidates (λ j. eqb (numberIn (now keys) j) key) n (value bucket) ⌝ }
+    ensures { λ r. ⌜ r ≡ least (λ j. eqb (numberIn (now (keys .entry)) j) key) n ⌝ }
+{
+    let a = key_in_word(keys, bucket[0], 0, key);
+    if a < 256 {
+        return a;
+    }
+    let b = key_in_word(keys, bucket[1], 64, key);
+    if b < 256 {
+        return b;
+    }
+    let c = key_in_word(keys, bucket[2], 128, key);
+    if c < 256 {
+        return c;
+    }
+    let d = key_in_word(keys, bucket[3], 192, key);
+    if d < 256 {
+        return d;
     }
     n
 }
 
-// The lowest entry before n with this set, and n where there is none.
-fn first_set(sets: &[[u64; 4]; 256], n: u8, set: [u64; 4]) -> u8
+// The first entry with this set among the members of a word, whose first entry is base; 256 where there is none.
+fn set_in_word(sets: &[[u64; 4]; 256], word: u64, base: u8, set: [u64; 4]) -> u16
+    requires { ⌜ base ≤ 192 ⌝ }
+    ensures { λ r. ⌜ FoundIn (λ j. eqb (setIn (now (sets .entry)) j) (value set)) word base r ⌝ }
+{
+    let mut left = word;
+    while left != 0 {
+        let i = base + bitset::lowest(left);
+        if bitset::equal(sets[i as usize], set) {
+            return i as u16;
+        }
+        left = bitset::rest(left);
+    }
+    256
+}
+
+// The lowest entry before n with this set, and n where there is none. The bucket is the set's.
+fn first_set(sets: &[[u64; 4]; 256], bucket: [u64; 4], n: u16, set: [u64; 4]) -> u16
+    requires { ⌜ n ≤ 256 ⌝ }
+    requires { ⌜ Candidates (λ j. eqb (setIn (now sets) j) (value set)) n (value bucket) ⌝ }
     ensures { λ r. ⌜ r ≡ least (λ j. eqb (setIn (now (sets .entry)) j) (value set)) n ⌝ }
 {
-    let mut j: u8 = 0;
-    while j < n {
-        if bitset::equal(sets[j as usize], set) {
-            return j;
-        }
-        j += 1;
+    let a = set_in_word(sets, bucket[0], 0, set);
+    if a < 256 {
+        return a;
+    }
+    let b = set_in_word(sets, bucket[1], 64, set);
+    if b < 256 {
+        return b;
+    }
+    let c = set_in_word(sets, bucket[2], 128, set);
+    if c < 256 {
+        return c;
+    }
+    let d = set_in_word(sets, bucket[3], 192, set);
+    if d < 256 {
+        return d;
     }
     n
+}
+
+// The representative of entry n, which has no key and this set. A set of one member is that entry's own; any other is looked for in its bucket.
+fn rep_of_set(sets: &[[u64; 4]; 256], buckets: &[[u64; 4]; 256], n: u8, set: [u64; 4]) -> u8
+    requires { ⌜ ((Alone (value set) → ⊥) → Candidates (λ j. eqb (setIn (now sets) j) (value set)) n (setIn (now buckets) (setBucket set))) ⌝ }
+    ensures alone { λ r. ⌜ (Alone (value set) → r ≡ leading (value set)) ⌝ }
+    ensures found { λ r. ⌜ ((Alone (value set) → ⊥) → r ≡ least (λ j. eqb (setIn (now (sets .entry)) j) (value set)) n) ⌝ }
+{
+    let e = bitset::leading(set);
+    if bitset::equal(set, bitset::singleton(e)) {
+        return e;
+    }
+    let at = set_bucket(set);
+    first_set(sets, buckets[at], n as u16, set) as u8
 }
 
 // The exclusive or of the sets of a sum's items; the empty set for a record without items, as zero's.
@@ -175,48 +257,87 @@ fn standard_set(sets: &[[u64; 4]; 256], n: u8, first: u8) -> [u64; 4]
     bitset::singleton(n)
 }
 
-// The line of entry i, where the tables are right for all entries before it.
-fn line_of(s: &[u8], i: u8, keys: &[u64; 256], sets: &[[u64; 4]; 256], reps: &[u8; 256]) -> Line
+// The line of entry i, where the tables are right for all entries before it, and these are in their buckets.
+fn line_of(
+    s: &[u8],
+    i: u8,
+    keys: &[u64; 256],
+    sets: &[[u64; 4]; 256],
+    reps: &[u8; 256],
+    buckets: &[[u64; 4]; 256],
+) -> Line
     requires { ⌜ refusal (now s) ≡ 0 ⌝ }
     requires { ⌜ i < countOf (now s) ⌝ }
     requires { ⌜ Right (entryAt (now s)) i (now keys) (now sets) (now reps) ⌝ }
+    requires { ⌜ Bucketed (entryAt (now s)) i (now buckets) ⌝ }
     ensures { λ r. ⌜ RightLine (entryAt (now (s .entry))) i (r .key) (r .set) (r .rep) ⌝ }
 {
     let r = sheet::record(s, i as u16);
     let key = key_of(r, reps);
     if key == 0 {
         let set = sum_of_items(r, sets);
-        let rep = first_set(sets, i, set);
+        let rep = rep_of_set(sets, buckets, i, set);
         return Line { key, set, rep };
     }
-    let rep = first_key(keys, i as u16, key) as u8;
+    let at = key_bucket(key);
+    let rep = first_key(keys, buckets[at], i as u16, key) as u8;
     let set = standard_set(sets, i, rep);
     Line { key, set, rep }
 }
 
-// Fills the first lines of the tables, one for each entry of a good sheet, and leaves the others as they are. The keys lack what opens a lock.
-fn fill(s: &[u8], keys: &mut [u64; 256], sets: &mut [[u64; 4]; 256], reps: &mut [u8; 256])
+// The bucket of an entry with this key and this set.
+fn bucket_of(key: u64, set: [u64; 4]) -> usize
+    ensures { λ r. ⌜ r ≡ bucketOf key set ⌝ }
+{
+    if key == 0 {
+        return set_bucket(set);
+    }
+    key_bucket(key)
+}
+
+// Entry i, with this key and this set, joins its bucket.
+fn join(buckets: &mut [[u64; 4]; 256], key: u64, set: [u64; 4], i: u8)
+    requires { ⌜ length (now buckets) ≡ 256 ⌝ }
+    ensures { λ _. ⌜ ((e : ℕ → Entry) → Bucketed e i (now (buckets .entry)) → key ≡ keyAt e i → value set ≡ setAt e i → Bucketed e (i + 1) (now (buckets .exit))) ⌝ }
+{
+    let at = bucket_of(key, set);
+    bitset::put(&mut buckets[at], i);
+}
+
+// Fills the first lines of the tables, one for each entry of a good sheet, and leaves the others as they are. The keys lack what opens a lock. Each entry
+// joins its bucket.
+fn fill(
+    s: &[u8],
+    keys: &mut [u64; 256],
+    sets: &mut [[u64; 4]; 256],
+    reps: &mut [u8; 256],
+    buckets: &mut [[u64; 4]; 256],
+)
     requires { ⌜ refusal (now s) ≡ 0 ⌝ }
     requires { ⌜ Sized (now keys) (now sets) (now reps) ⌝ }
-    ensures { λ _. ⌜ Filled (entryAt (now (s .entry))) (countOf (now (s .entry))) (now (keys .entry)) (now (sets .entry)) (now (reps .entry)) (now (keys .exit)) (now (sets .exit)) (now (reps .exit)) ⌝ }
+    requires { ⌜ Bucketed (entryAt (now s)) 0 (now buckets) ⌝ }
+    ensures lines { λ _. ⌜ Filled (entryAt (now (s .entry))) (countOf (now (s .entry))) (now (keys .entry)) (now (sets .entry)) (now (reps .entry)) (now (keys .exit)) (now (sets .exit)) (now (reps .exit)) ⌝ }
+    ensures buckets { λ _. ⌜ Bucketed (entryAt (now (s .entry))) (countOf (now (s .entry))) (now (buckets .exit)) ⌝ }
 {
     let n = sheet::count(s);
     let mut i: u16 = 0;
     while i < n {
-        let line = line_of(s, i as u8, keys, sets, reps);
+        let line = line_of(s, i as u8, keys, sets, reps, buckets);
         let at = i as usize;
         let set = line.set;
         keys[at] = line.key;
         sets[at] = set;
         reps[at] = line.rep;
+        join(buckets, line.key, set, i as u8);
         i += 1;
     }
 }
 
-// The key of entry i with what opens it, if it is a lock: the first entry with the key of the opposite half.
-fn open_key(keys: &[u64; 256], n: u16, i: u8) -> u64
+// The key of entry i with what opens it, if it is a lock: the first entry with the key of the opposite half, found in the bucket of that key.
+fn open_key(keys: &[u64; 256], buckets: &[[u64; 4]; 256], n: u16, i: u8) -> u64
     requires { ⌜ n ≤ 256 ⌝ }
     requires { ⌜ numberIn (now keys) i < 2 ^ 40 ⌝ }
+    requires { ⌜ (keyKind (numberIn (now keys) i) ≡ 7 → Candidates (λ j. eqb (numberIn (now keys) j) (soughtIn (now keys) (numberIn (now keys) i))) n (setIn (now buckets) (keyBucket (soughtIn (now keys) (numberIn (now keys) i))))) ⌝ }
     ensures { λ r. ⌜ r ≡ openIn (now (keys .entry)) n (numberIn (now (keys .entry)) i) ⌝ }
 {
     let key = keys[i as usize];
@@ -224,21 +345,25 @@ fn open_key(keys: &[u64; 256], n: u16, i: u8) -> u64
         return key;
     }
     let half = keys[right(key) as usize];
-    let opener = first_key(keys, n, opposite(half));
+    let other = opposite(half);
+    let at = key_bucket(other);
+    let opener = first_key(keys, buckets[at], n, other);
     key + (opener as u64) * 65536
 }
 
-// Puts into the key of each lock of a good sheet what opens it. The opposite half may stand above the lock, so this waits for all keys.
-fn open_locks(s: &[u8], keys: &mut [u64; 256])
+// Puts into the key of each lock of a good sheet what opens it. The opposite half may stand above the lock, so this waits for all keys. Halves keep their
+// keys, so they stay in their buckets.
+fn open_locks(s: &[u8], keys: &mut [u64; 256], buckets: &[[u64; 4]; 256])
     requires { ⌜ refusal (now s) ≡ 0 ⌝ }
     requires { ⌜ length (now keys) ≡ 256 ⌝ }
     requires { ⌜ ((i : ℕ) → i < countOf (now s) → numberIn (now keys) i ≡ keyAt (entryAt (now s)) i) ⌝ }
+    requires { ⌜ Bucketed (entryAt (now s)) (countOf (now s)) (now buckets) ⌝ }
     ensures { λ _. ⌜ Opened (entryAt (now (s .entry))) (countOf (now (s .entry))) (now (keys .entry)) (now (keys .exit)) ⌝ }
 {
     let n = sheet::count(s);
     let mut i: u16 = 0;
     while i < n {
-        let key = open_key(keys, n, i as u8);
+        let key = open_key(keys, buckets, n, i as u8);
         keys[i as usize] = key;
         i += 1;
     }
@@ -250,6 +375,7 @@ pub fn tables(s: &[u8], keys: &mut [u64; 256], sets: &mut [[u64; 4]; 256], reps:
     requires { ⌜ Sized (now keys) (now sets) (now reps) ⌝ }
     ensures { λ _. ⌜ Finished (entryAt (now (s .entry))) (countOf (now (s .entry))) (now (keys .entry)) (now (sets .entry)) (now (reps .entry)) (now (keys .exit)) (now (sets .exit)) (now (reps .exit)) ⌝ }
 {
-    fill(s, keys, sets, reps);
-    open_locks(s, keys);
+    let mut buckets = [[0u64; 4]; 256];
+    fill(s, keys, sets, reps, &mut buckets);
+    open_locks(s, keys, &buckets);
 }

@@ -6,7 +6,7 @@
 -- Assumes nothing.
 use mathlib.Core.Path.{_≡_, sym, ap, ap₂, _∙_, subst}
 use mathlib.Core.Bool.{Bool, true, false, true≢false, xor, cond}
-use mathlib.Core.Logic.{by-cases}
+use mathlib.Core.Logic.{_⊎_, inl, inr, by-cases}
 use mathlib.Core.List.{List, [], _∷_}
 use Prim.Native.Nat.{ℕ, zero, suc, _+_, _*_, _^_, _<_}
 use native.Mathlib.Nat.{zero-mul, mul-assoc, mul-one, add-comm, add-zero, not-suc-le-zero, le-of-suc-le-suc}
@@ -60,6 +60,11 @@ module _ {word left r : ℕ} (h : Left word left) (some : ¬ (left ≡ 0)) (q : 
 
   pub left-less : r < left
   left-less = omega (arith, left-rest, rest-less left (omega arith) (h .below))
+
+  -- a member that isn't left any more was taken out, or wasn't left before
+  pub left-gone : (k : ℕ) → member r k ≡ false → (trailingZeros 64 left ≡ k) ⊎ (member left k ≡ false)
+  left-gone k g =
+      by-cases (ℕ-discrete (trailingZeros 64 left) k) inl (λ f. inr (sym (rest-member left (trailingZeros 64 left) k f) ∙ ap (λ (x : ℕ). member x k) (sym left-rest) ∙ g))
 
   pub left-again : Left word r
   left-again = record { inside = subst (λ (x : ℕ). Inside x word) (sym left-rest) (rest-inside word left (h .inside) (omega arith) (h .below)); below = omega (arith, left-less, h .below) }

@@ -1,21 +1,30 @@
 -- One line more: what the tables' first i lines say of entry i.
--- Shown: for a good sheet whose tables are right so far, the line of zero or a sum, and the line of any other entry, be it built
--- like an earlier entry or new. Assumes nothing.
-use mathlib.Core.Path.{_≡_, sym, ap, ap₂, _∙_, subst}
+-- Shown: for a good sheet whose tables are right so far, and whose entries so far are in their buckets, what a search in a bucket finds; the line of
+-- zero or a sum, and the line of any other entry, be it built like an earlier entry or new. Assumes nothing.
+use mathlib.Core.Path.{_≡_, refl, sym, ap, ap₂, _∙_, subst}
+use mathlib.Core.Bool.{true}
 use mathlib.Core.Logic.{by-cases}
 use mathlib.Core.List.{List, List·Memᴰ}
 use Prim.Native.Nat.{ℕ, _^_, _≤_, _<_}
-use native.Mathlib.Decide.{decLt}
+use native.Mathlib.Nat.{le-refl, lt-suc-self}
+use native.Mathlib.Decide.{ℕ-discrete, decLt}
 use native.Mathlib.Omega.{arith}
 use lib.Dec.{eqb}
 use lib.ListN.{length}
+use lib.Pow.{pow-lt}
+use borrow.Author.Tests.{eqb-true, eq-eqb}
+use Rattle.bitset.specs.Set.{member, leading}
 use Rattle.bitset.specs.Words.{value}
+use Rattle.bitset.specs.Inner.{FourWords}
+use Rattle.bitset.proofs.Laws.Leading.{leading-between}
+use Rattle.bitset.proofs.Laws.Member.{member-single}
 use Rattle.deduction.specs.Entry.{Entry, parts, Downward}
 use Rattle.deduction.specs.Standard.{least, firstAlike, xorAll, setAt, repAt}
-use Rattle.deduction.proofs.Standard.{rep-le, rep-set}
+use Rattle.deduction.proofs.Standard.{rep-le, rep-set, rep-of-set}
 use Rattle.deduction.proofs.Standard.Least.{least-same}
 use Rattle.deduction.proofs.Standard.Sets.{setAt-build, xorAll-same}
-use Rattle.deduction.proofs.Standard.Members.{rep-first, standard-head, standard-set}
+use Rattle.deduction.proofs.Standard.First.{first, set-first}
+use Rattle.deduction.proofs.Standard.Members.{members-le, members-standard, rep-first, standard-head, standard-set}
 use Rattle.dag.specs.Sheet.{countOf, recordAt, listed}
 use Rattle.dag.specs.Record.{kindOf, fits, itemCount, itemAt, decode, entryAt}
 use Rattle.dag.specs.Refusal.{refusal}
@@ -23,6 +32,7 @@ use Rattle.dag.proofs.Laws.Parts.{item-listed}
 use Rattle.dag.proofs.Laws.Good.{Good, good}
 use Rattle.canonical.specs.Inner.Key.{keyOf, keyAt}
 use Rattle.canonical.specs.Inner.Tables.{setIn, numberIn, RightLine, Right}
+use Rattle.canonical.specs.Inner.Buckets.{keyBucket, setBucket, Bucketed, Alone, Candidates}
 use Rattle.canonical.proofs.Laws.Key.{Narrow, key-same, key-alike, key-plain}
 use Rattle.canonical.proofs.Laws.Record.{Bytes, items-parts, parts-set, narrow-bytes}
 
@@ -55,15 +65,50 @@ module _ (e : ℕ → Entry) (n : ℕ) (down : Downward e n) (few : n ≤ 256) (
   unfolding repAt
   line-rep v p = least-same _ _ i (λ j l. ap₂ eqb (right .set j l) p)
 
--- a good sheet whose tables are right for the entries before i, and its record i
-pub record Ready (s : List ℕ) (i : ℕ) (keys : List ℕ) (sets : List (List ℕ)) (reps r : List ℕ) : Type 0 where
+  -- an entry with a key has a set of one member
+  keyed-alone : (j : ℕ) → j < n → ¬ (keyAt e j ≡ 0) → Alone (setAt e j)
+  keyed-alone j l f =
+      let q = set-first e n down j l (key-plain (repAt e) (setAt e) (e j) f) in
+      q ∙ ap (λ (x : ℕ). 2 ^ x) (sym (leading-between (2 ^ first e j) (first e j) (le-refl (2 ^ first e j)) (pow-lt (lt-suc-self (first e j)))) ∙ ap leading (sym q))
+
+  -- a set of one member is that of the member, which is the representative
+  line-alone : Alone (setAt e i) → leading (setAt e i) ≡ repAt e i
+  line-alone a =
+      let k = leading (setAt e i) in
+      let m : member (setAt e i) k ≡ true = ap (λ (x : ℕ). member x k) a ∙ member-single k k ∙ eq-eqb k k refl in
+      let s = members-standard e n down i h k m in
+      let l : k < n = omega (arith, members-le e n down i h k m) in
+      sym (standard-head e k .0 s .0) ∙ sym (rep-of-set e i k (a ∙ sym (standard-set e n down k l s)))
+
+  -- what a search in a bucket finds: an entry with the key, and one with a set of not one member, which has no key
+  module _ (buckets : List (List ℕ)) (b : Bucketed e i buckets) where
+    key-candidates : {k : ℕ} → ¬ (k ≡ 0) → Candidates (λ j. eqb (numberIn keys j) k) i (setIn buckets (keyBucket k))
+    key-candidates {k} f = record { every = every; within = b .within (keyBucket k) }
+      where
+        every : (j : ℕ) → j < i → eqb (numberIn keys j) k ≡ true → member (setIn buckets (keyBucket k)) j ≡ true
+        every j l t =
+            let q : keyAt e j ≡ k = sym (right .key j l) ∙ eqb-true (numberIn keys j) k t in
+            subst (λ (x : ℕ). member (setIn buckets (keyBucket x)) j ≡ true) q (b .key j l (λ z. f (sym q ∙ z)))
+
+    set-candidates : (ws : List ℕ) → FourWords ws → ¬ Alone (value ws) → Candidates (λ j. eqb (setIn sets j) (value ws)) i (setIn buckets (setBucket ws))
+    set-candidates ws four f = record { every = every; within = b .within (setBucket ws) }
+      where
+        every : (j : ℕ) → j < i → eqb (setIn sets j) (value ws) ≡ true → member (setIn buckets (setBucket ws)) j ≡ true
+        every j l t =
+            let q : setAt e j ≡ value ws = sym (right .set j l) ∙ eqb-true (setIn sets j) (value ws) t in
+            by-cases (ℕ-discrete (keyAt e j) 0) (λ z. b .set j l z ws four (sym q)) (λ g. absurd (f (subst (λ (x : ℕ). Alone x) q (keyed-alone j (omega arith) g))))
+
+-- a good sheet whose tables are right for the entries before i, which are in their buckets, and its record i
+pub record Ready (s : List ℕ) (i : ℕ) (keys : List ℕ) (sets : List (List ℕ)) (reps : List ℕ) (buckets : List (List ℕ)) (r : List ℕ) : Type 0 where
   pub bytes : Bytes s
   pub accepted : refusal s ≡ 0
   pub within : i < countOf s
   pub right : Right (entryAt s) i keys sets reps
+  pub bucketed : Bucketed (entryAt s) i buckets
   pub same : r ≡ recordAt s i
 
-module _ {s : List ℕ} {i : ℕ} {keys : List ℕ} {sets : List (List ℕ)} {reps r : List ℕ} (g : Ready s i keys sets reps r) where
+module _ {s : List ℕ} {i : ℕ} {keys : List ℕ} {sets : List (List ℕ)} {reps : List ℕ} {buckets : List (List ℕ)} {r : List ℕ}
+    (g : Ready s i keys sets reps buckets r) where
   ok : Good s
   ok = good s (g .accepted)
 
@@ -90,14 +135,28 @@ module _ {s : List ℕ} {i : ℕ} {keys : List ℕ} {sets : List (List ℕ)} {re
   pub items-below : {k : ℕ} → k ≡ keyOf (numberIn reps) (decode r) → k ≡ 0 → (j : ℕ) → j < itemCount r → itemAt r j < 256
   items-below p z j l = parts-below (itemAt r j) (subst (List·Memᴰ (itemAt r j)) (sym (items (sym p ∙ z))) (item-listed (itemAt r) (itemCount r) j l))
 
+  -- the searches
+  pub key-sought : {k : ℕ} → ¬ (k ≡ 0) → Candidates (λ j. eqb (numberIn keys j) k) i (setIn buckets (keyBucket k))
+  key-sought = key-candidates (entryAt s) (countOf s) down few narrow i (g .within) keys sets reps (g .right) buckets (g .bucketed)
+
+  pub set-sought : (ws : List ℕ) → FourWords ws → ¬ Alone (value ws) → Candidates (λ j. eqb (setIn sets j) (value ws)) i (setIn buckets (setBucket ws))
+  set-sought = set-candidates (entryAt s) (countOf s) down few narrow i (g .within) keys sets reps (g .right) buckets (g .bucketed)
+
   -- zero and sums
   pub sum-line : {k rep : ℕ} {set : List ℕ} → k ≡ keyOf (numberIn reps) (decode r) → k ≡ 0 → value set ≡ xorAll (setIn sets) (listed (itemAt r) (itemCount r))
-      → rep ≡ least (λ j. eqb (setIn sets j) (value set)) i → RightLine (entryAt s) i k set rep
-  sum-line {set = set} p z q t =
+      → (Alone (value set) → rep ≡ leading (value set)) → (¬ Alone (value set) → rep ≡ least (λ j. eqb (setIn sets j) (value set)) i) → RightLine (entryAt s) i k set rep
+  sum-line {set = set} p z q alone found =
       let v : value set ≡ setAt (entryAt s) i =
       q ∙ ap (xorAll (setIn sets)) (sym (items (sym p ∙ z)) ∙ ap (λ (l : List ℕ). parts (decode l)) (g .same))
       ∙ line-sum (entryAt s) (countOf s) down few narrow i (g .within) keys sets reps (g .right) (sym (key-right p) ∙ z) in
-      record { key = key-right p; set = v; rep = t ∙ line-rep (entryAt s) (countOf s) down few narrow i (g .within) keys sets reps (g .right) (value set) v }
+      record {
+        key = key-right p;
+        set = v;
+        rep =
+            by-cases (ℕ-discrete (value set) (2 ^ leading (value set)))
+            (λ a. alone a ∙ ap leading v ∙ line-alone (entryAt s) (countOf s) down few narrow i (g .within) keys sets reps (g .right) (subst (λ (x : ℕ). Alone x) v a))
+            (λ f. found f ∙ line-rep (entryAt s) (countOf s) down few narrow i (g .within) keys sets reps (g .right) (value set) v);
+      }
 
   -- any other kind
   first-right : {k f : ℕ} → k ≡ keyOf (numberIn reps) (decode r) → ¬ (k ≡ 0) → f ≡ least (λ j. eqb (numberIn keys j) k) i → f ≡ repAt (entryAt s) i

@@ -1,7 +1,7 @@
 -- What opens a lock, found over the keys.
 -- Defined: `Opening`, the keys of the first i entries have what opens them, the others not yet.
--- Shown: the key of the opposite half; over such keys an entry has the key of a half exactly when it is that half; the key of the next entry with
--- what opens it, for entries whose locks have halves for keys, and so for a good sheet. Assumes nothing.
+-- Shown: the key of the opposite half; over such keys an entry has the key of a half exactly when it is that half, and is then in that key's bucket;
+-- the key of the next entry with what opens it, for entries whose locks have halves for keys, and so for a good sheet. Assumes nothing.
 use mathlib.Core.Path.{_≡_, refl, sym, ap, ap₂, _∙_, subst}
 use mathlib.Core.Bool.{Bool, true, false, cond, _&&_}
 use mathlib.Core.Logic.{_⊎_, inl, inr, by-cases}
@@ -14,6 +14,7 @@ use lib.ListN.{length, set}
 use lib.Seq.{getD-set-same, getD-set-other}
 use borrow.Author.Count.{below-more}
 use borrow.Author.Tests.{eq-eqb, ne-eqb, eqb-true, eqb-false}
+use Rattle.bitset.specs.Set.{member}
 use Rattle.deduction.specs.Term.{Side, private, public, opposite}
 use Rattle.deduction.specs.Entry.{Entry, Zero, Atom, Pair, Enc, Sum, Half, Aenc, parts, Downward}
 use Rattle.deduction.specs.Standard.{halfKind, least, shape, setAt, repAt}
@@ -28,8 +29,9 @@ use Rattle.dag.specs.Sheet.{countOf}
 use Rattle.dag.specs.Record.{entryAt}
 use Rattle.dag.specs.Refusal.{refusal}
 use Rattle.dag.proofs.Laws.Good.{Good, good}
-use Rattle.canonical.specs.Inner.Key.{keyOf, keyAt, keyKind, keyRight, oppositeKey, openerOf, openKeyAt}
-use Rattle.canonical.specs.Inner.Tables.{numberIn, openIn}
+use Rattle.canonical.specs.Inner.Key.{keyOf, keyAt, keyKind, oppositeKey, openerOf, openKeyAt}
+use Rattle.canonical.specs.Inner.Tables.{setIn, numberIn, soughtIn, openIn}
+use Rattle.canonical.specs.Inner.Buckets.{keyBucket, Bucketed, Candidates}
 use Rattle.canonical.proofs.Laws.Key.{numberOf, Narrow, number-kind, number-low, key-form, key-kind}
 use Rattle.canonical.proofs.Laws.Record.{Bytes, narrow-bytes}
 
@@ -76,6 +78,17 @@ half-test e n rep z a (Half s y) b x ha hd below q =
     ap (λ (k : ℕ). eqb k (halfKind z * 2 ^ 32 + a)) plain ∙ numbers-same (halfKind s) y (halfKind z) a hd ha
 half-test e n rep z a (Aenc l r) b x ha hd below q = outside x z a ha (inr (omega (arith, q)))
 
+-- an entry of kind 7 is a lock
+lock-parts : (s : ℕ → ℕ) (d : Entry) → shape s d .kind ≡ 7 → (m : ℕ) × (k : ℕ) × (d ≡ Aenc m k)
+unfolding shape
+lock-parts s Zero p = absurd (omega arith)
+lock-parts s (Atom a) p = absurd (omega arith)
+lock-parts s (Pair l r) p = absurd (omega arith)
+lock-parts s (Enc m k) p = absurd (omega arith)
+lock-parts s (Sum items) p = absurd (omega arith)
+lock-parts s (Half z a) p = absurd (omega (arith, half-range z))
+lock-parts s (Aenc m k) p = (m, k, refl)
+
 module _ (e : ℕ → Entry) (n : ℕ) (down : Downward e n) (few : n ≤ 256) (narrow : Narrow e n)
     (halves : Halved e n) where
   -- a half's number has at most 32 bits
@@ -99,18 +112,41 @@ module _ (e : ℕ → Entry) (n : ℕ) (down : Downward e n) (few : n ≤ 256) (
     half-keyed j s a h p =
         eqb-true _ _ (half-found s a (number j s a h p) j h ∙ half-is s a (e j) p)
 
-    opener-least : (m k : ℕ) → i < n → e i ≡ Aenc m k
-        → least (λ j. eqb (numberIn keys j) (oppositeKey (numberIn keys (keyRight (keyAt e i))))) n ≡ opener e n (e (repAt e k))
-    unfolding opener parts
-    opener-least m k h p =
+    -- the key that opens a lock is that of the opposite half
+    sought : (m k : ℕ) → i < n → e i ≡ Aenc m k
+        → (s : Side) × (a : ℕ) × (e (repAt e k) ≡ Half s a) × (a < 2 ^ 32) × (soughtIn keys (keyAt e i) ≡ halfKind (opposite s) * 2 ^ 32 + a)
+    unfolding parts
+    sought m k h p =
         let (s, a, q) = halves i m k h p in
         let lk : k < n = omega (arith, down i k h (subst (λ (d : Entry). List·Memᴰ k (parts d)) (sym p) (List·Memᴰ·tail (List·Memᴰ·head refl)))) in
-        let x = repAt e k in
-        let r : e x ≡ Half s a = rep-half e n down k s a lk q in
+        let r : e (repAt e k) ≡ Half s a = rep-half e n down k s a lk q in
         let low : a < 2 ^ 32 = number k s a lk q in
-        let other : oppositeKey (numberIn keys (keyRight (keyAt e i))) ≡ halfKind (opposite s) * 2 ^ 32 + a =
-        ap (λ (j : ℕ). oppositeKey (numberIn keys j)) (key-form e n down few narrow aencs i m k h p .1) ∙ ap oppositeKey (half-keyed x s a (rep-below e n down k lk) r) ∙ opposite-key s a low in
+        let other : soughtIn keys (keyAt e i) ≡ halfKind (opposite s) * 2 ^ 32 + a =
+        ap (λ (j : ℕ). oppositeKey (numberIn keys j)) (key-form e n down few narrow aencs i m k h p .1) ∙ ap oppositeKey (half-keyed (repAt e k) s a (rep-below e n down k lk) r) ∙ opposite-key s a low in
+        (s, a, r, low, other)
+
+    opener-least : (m k : ℕ) → i < n → e i ≡ Aenc m k → least (λ j. eqb (numberIn keys j) (soughtIn keys (keyAt e i))) n ≡ opener e n (e (repAt e k))
+    unfolding opener
+    opener-least m k h p =
+        let (s, a, r, low, other) = sought m k h p in
         least-same _ _ n (λ j l. ap (eqb (numberIn keys j)) other ∙ half-found (opposite s) a low j l) ∙ sym (ap (opener e n) r)
+
+    -- and the bucket of that key has every entry with it: halves keep their keys
+    lock-candidates : (buckets : List (List ℕ)) → Bucketed e n buckets → i < n → keyKind (keyAt e i) ≡ 7
+        → Candidates (λ j. eqb (numberIn keys j) (soughtIn keys (keyAt e i))) n (setIn buckets (keyBucket (soughtIn keys (keyAt e i))))
+    lock-candidates buckets b h z = go (lock-parts (setAt e) (e i) (sym (key-kind e n down few narrow i h) ∙ z))
+      where
+        go : (m : ℕ) × (k : ℕ) × (e i ≡ Aenc m k) → Candidates (λ j. eqb (numberIn keys j) (soughtIn keys (keyAt e i))) n (setIn buckets (keyBucket (soughtIn keys (keyAt e i))))
+        go (m, k, p) = record { every = every; within = b .within (keyBucket (soughtIn keys (keyAt e i))) }
+          where
+            every : (j : ℕ) → j < n → eqb (numberIn keys j) (soughtIn keys (keyAt e i)) ≡ true → member (setIn buckets (keyBucket (soughtIn keys (keyAt e i)))) j ≡ true
+            every j l t =
+                let (s, a, r, low, other) = sought m k h p in
+                let same : keyAt e j ≡ halfKind (opposite s) * 2 ^ 32 + a =
+                eqb-true (keyAt e j) (halfKind (opposite s) * 2 ^ 32 + a)
+                (half-test e n (repAt e) (opposite s) a (e j) false (keyAt e j) low (narrow j l) (λ x g. omega (arith, rep-le e x, down j x l g)) (omega arith)
+                ∙ sym (half-found (opposite s) a low j l) ∙ ap (eqb (numberIn keys j)) (sym other) ∙ t) in
+                subst (λ (x : ℕ). member (setIn buckets (keyBucket x)) j ≡ true) (same ∙ sym other) (b .key j l (λ q. absurd (omega (arith, same, half-range (opposite s)))))
 
     -- the key of the next entry with what opens it
     pub open-next : i < n → openIn keys n (numberIn keys i) ≡ openKeyAt e n i
@@ -118,7 +154,7 @@ module _ (e : ℕ → Entry) (n : ℕ) (down : Downward e n) (few : n ≤ 256) (
     open-next h = ap (openIn keys n) (o .left i (omega arith) h) ∙ go (e i) refl
       where
         found : ℕ
-        found = keyAt e i + least (λ j. eqb (numberIn keys j) (oppositeKey (numberIn keys (keyRight (keyAt e i))))) n * 65536
+        found = keyAt e i + least (λ j. eqb (numberIn keys j) (soughtIn keys (keyAt e i))) n * 65536
 
         by-kind : (d : Entry) → e i ≡ d → openIn keys n (keyAt e i) ≡ cond (eqb (shape (setAt e) d .kind) 7) found (keyAt e i)
         by-kind d q = ap (λ (k : ℕ). cond (eqb k 7) found (keyAt e i)) (key-kind e n down few narrow i h ∙ ap (λ (c : Entry). shape (setAt e) c .kind) q)
@@ -144,11 +180,11 @@ opening-more e n i keys v o h p = record {
 module _ (keys : List ℕ) (n key : ℕ) where
   pub open-other : ¬ (keyKind key ≡ 7) → key ≡ openIn keys n key
   unfolding openIn
-  open-other p = sym (ap (λ (b : Bool). cond b (key + least (λ j. eqb (numberIn keys j) (oppositeKey (numberIn keys (keyRight key)))) n * 65536) key) (ne-eqb (keyKind key) 7 p))
+  open-other p = sym (ap (λ (b : Bool). cond b (key + least (λ j. eqb (numberIn keys j) (soughtIn keys key)) n * 65536) key) (ne-eqb (keyKind key) 7 p))
 
-  pub open-lock : keyKind key ≡ 7 → key + least (λ j. eqb (numberIn keys j) (oppositeKey (numberIn keys (keyRight key)))) n * 65536 ≡ openIn keys n key
+  pub open-lock : keyKind key ≡ 7 → key + least (λ j. eqb (numberIn keys j) (soughtIn keys key)) n * 65536 ≡ openIn keys n key
   unfolding openIn
-  open-lock p = sym (ap (λ (b : Bool). cond b (key + least (λ j. eqb (numberIn keys j) (oppositeKey (numberIn keys (keyRight key)))) n * 65536) key) (eq-eqb (keyKind key) 7 p))
+  open-lock p = sym (ap (λ (b : Bool). cond b (key + least (λ j. eqb (numberIn keys j) (soughtIn keys key)) n * 65536) key) (eq-eqb (keyKind key) 7 p))
 
 -- a key leaves room for what opens it
 key-room : (rep : ℕ → ℕ) (d : Entry) → numberOf d < 2 ^ 32 → ((j : ℕ) → List·Memᴰ j (parts d) → rep j < 256) → keyOf rep d < 2 ^ 40
@@ -170,6 +206,12 @@ module _ (s : List ℕ) (bytes : Bytes s) (accepted : refusal s ≡ 0) (i : ℕ)
   good-room =
       subst (λ (k : ℕ). k < 2 ^ 40) (sym (o .left i (omega arith) h))
       (key-room (repAt (entryAt s)) (entryAt s i) (narrow-bytes s (countOf s) bytes i h) (λ j m. omega (arith, rep-le (entryAt s) j, ok .few, ok .downward i j h m)))
+
+  pub good-candidates : (buckets : List (List ℕ)) → Bucketed (entryAt s) (countOf s) buckets → keyKind (numberIn keys i) ≡ 7
+      → Candidates (λ j. eqb (numberIn keys j) (soughtIn keys (numberIn keys i))) (countOf s) (setIn buckets (keyBucket (soughtIn keys (numberIn keys i))))
+  good-candidates buckets b =
+      subst (λ (k : ℕ). keyKind k ≡ 7 → Candidates (λ j. eqb (numberIn keys j) (soughtIn keys k)) (countOf s) (setIn buckets (keyBucket (soughtIn keys k)))) (sym (o .left i (omega arith) h))
+      (lock-candidates (entryAt s) (countOf s) (ok .downward) (ok .few) (narrow-bytes s (countOf s) bytes) (ok .halves) i keys o buckets b h)
 
   pub good-next : openIn keys (countOf s) (numberIn keys i) ≡ openKeyAt (entryAt s) (countOf s) i
   good-next = open-next (entryAt s) (countOf s) (ok .downward) (ok .few) (narrow-bytes s (countOf s) bytes) (ok .halves) i keys o h

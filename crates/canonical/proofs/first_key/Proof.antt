@@ -1,69 +1,107 @@
--- `canonical::first_key` meets its contract. The loop's invariant: no entry so far has the key.
-use Prim.Native.Nat.{ℕ, _-_, _≤_, _<_}
-use mathlib.Core.Path.{_≡_}
-use mathlib.Core.Bool.{false}
+-- `canonical::first_key` meets its contract: the four words of the bucket in turn.
+use mathlib.Core.Bool.{Bool}
+use Prim.Native.Nat.{ℕ}
 use native.Mathlib.Omega.{arith}
-use borrow.Author.Count.{below-more}
-use borrow.Author.Tests.{eq-eqb, ne-eqb}
 use lib.Dec.{eqb}
+use lib.ListN.{getD}
+use mir.Syntax.{w64}
+use mir.Val.{Fits}
 use borrow.Author.Needs.{needs}
 use denote.Ref.{now}
+use Rattle.bitset.proofs.Laws.Words.{Below}
 use Rattle.canonical.specs.Inner.Tables.{numberIn}
-use Rattle.canonical.proofs.Laws.Search.{search-found, search-none}
+use Rattle.canonical.proofs.Laws.Search.{Missed, missed-none, missed-more, missed-all, found-least}
 use Rattle.canonical.proofs.first_key.Statement.{statement}
 use Rattle.canonical.proofs.first_key.Tie as tie
 
-abbrev Inv-loop : tie.InvT-loop
-Inv-loop keys n key k₀ k =
-    (k ≤ n) × ((j : ℕ) → j < k → eqb (numberIn keys j) key ≡ false)
+-- the test
+abbrev test : (c : tie.Start) → ℕ → Bool
+test c j = eqb (numberIn (now (c .args .keys)) j) (c .args .key)
 
-abbrev μ-loop : tie.MeasureT-loop
-μ-loop keys n key k₀ k =
-    n - k
+words : (c : tie.Start) → Below 64 (c .args .t2)
+words c i = let f : Fits w64 (getD (c .args .t2) i 0) = search needs in f .fits
 
-loop-holds : tie.Need-loop-holds Inv-loop μ-loop
-loop-holds c = (search needs, λ k l. absurd (omega arith))
+-- the words so far have none
+missed1 : (c : tie.Else1) → let s = c .before .before in Missed (test s) (s .args .t2) 1
+missed1 c = let s = c .before .before in
+    missed-more (s .args .t2) (words s) 0 (omega arith) (missed-none (test s) (s .args .t2)) (c .before .key-in-word .ensures) (omega (arith, c .if1 .left))
 
-cast-if1 : tie.Need-cast-if1 Inv-loop μ-loop
-cast-if1 c = search needs
+missed2 : (c : tie.Else2) → let s = c .before .before .before .before in Missed (test s) (s .args .t2) 2
+missed2 c = let b = c .before .before in
+    let s = b .before .before in
+    missed-more (s .args .t2) (words s) 1 (omega arith) (missed1 b) (c .before .key-in-word2 .ensures) (omega (arith, c .if2 .left))
 
-mul-if1 : tie.Need-mul-if1 Inv-loop μ-loop
-mul-if1 c = search needs
+missed3 : (c : tie.Else3) → let s = c .before .before .before .before .before .before in Missed (test s) (s .args .t2) 3
+missed3 c = let b = c .before .before in
+    let s = b .before .before .before .before in
+    missed-more (s .args .t2) (words s) 2 (omega arith) (missed2 b) (c .before .key-in-word3 .ensures) (omega (arith, c .if3 .left))
 
-element-copy-out-if1 : tie.Need-element-copy-out-if1 Inv-loop μ-loop
-element-copy-out-if1 c = search needs
+missed4 : (c : tie.Else4) → let s = c .before .before .before .before .before .before .before .before in Missed (test s) (s .args .t2) 4
+missed4 c = let b = c .before .before in
+    let s = b .before .before .before .before .before .before in
+    missed-more (s .args .t2) (words s) 3 (omega arith) (missed3 b) (c .before .key-in-word4 .ensures) (omega (arith, c .if4 .left))
 
-returns : tie.Need-returns Inv-loop μ-loop
-returns c = let a = c .before .before .before .before .args in
-    let l = c .before .before .before .loop in
-    search-found (λ k. eqb (numberIn (now (a .keys)) k) (a .key)) (a .n) (l .k) (c .before .before .loop-test .taken) (l .inv .1) (eq-eqb _ (a .key) (c .if1 .taken))
+array-read-key-in-word : tie.Need-array-read-key-in-word
+array-read-key-in-word c = search needs
 
-add-k : tie.Need-add-k Inv-loop μ-loop
-add-k c = search needs
+key-in-word-requires : tie.Need-key-in-word-requires
+key-in-word-requires c κs = search needs
 
-loop-less : tie.Need-loop-less Inv-loop μ-loop
-loop-less c = search needs
+returns : tie.Need-returns
+returns c = let s = c .before .before in
+    found-least (s .args .t2) (words s) 0 (omega arith) (missed-none (test s) (s .args .t2)) (c .before .key-in-word .ensures) (s .pre .1) (c .if1 .taken)
 
-loop-again : tie.Need-loop-again Inv-loop μ-loop
-loop-again c = let l = c .before .before .before .loop in
-    (omega arith, below-more _ (l .k) (l .inv .1) (ne-eqb _ (c .before .before .before .before .args .key) (c .if1 .left)))
+array-read-key-in-word-2 : tie.Need-array-read-key-in-word-2
+array-read-key-in-word-2 c = search needs
 
-returns-2 : tie.Need-returns-2 Inv-loop μ-loop
-returns-2 c = let a = c .before .before .args in
-    search-none (λ k. eqb (numberIn (now (a .keys)) k) (a .key)) (a .n) (λ k h. c .before .loop .inv .1 k (omega arith))
+key-in-word-requires-2 : tie.Need-key-in-word-requires-2
+key-in-word-requires-2 c κs = search needs
+
+returns-2 : tie.Need-returns-2
+returns-2 c = let b = c .before .before in
+    let s = b .before .before in
+    found-least (s .args .t2) (words s) 1 (omega arith) (missed1 b) (c .before .key-in-word2 .ensures) (s .pre .1) (c .if2 .taken)
+
+array-read-key-in-word-3 : tie.Need-array-read-key-in-word-3
+array-read-key-in-word-3 c = search needs
+
+key-in-word-requires-3 : tie.Need-key-in-word-requires-3
+key-in-word-requires-3 c κs = search needs
+
+returns-3 : tie.Need-returns-3
+returns-3 c = let b = c .before .before in
+    let s = b .before .before .before .before in
+    found-least (s .args .t2) (words s) 2 (omega arith) (missed2 b) (c .before .key-in-word3 .ensures) (s .pre .1) (c .if3 .taken)
+
+array-read-key-in-word-4 : tie.Need-array-read-key-in-word-4
+array-read-key-in-word-4 c = search needs
+
+key-in-word-requires-4 : tie.Need-key-in-word-requires-4
+key-in-word-requires-4 c κs = search needs
+
+returns-4 : tie.Need-returns-4
+returns-4 c = let b = c .before .before in
+    let s = b .before .before .before .before .before .before in
+    found-least (s .args .t2) (words s) 3 (omega arith) (missed3 b) (c .before .key-in-word4 .ensures) (s .pre .1) (c .if4 .taken)
+
+returns-5 : tie.Need-returns-5
+returns-5 c = let s = c .before .before .before .before .before .before .before .before in
+    missed-all (s .args .t2) (missed4 c) (s .pre .0) (s .pre .1)
 
 pub first-key-spec : {M : Type 1} → statement M
 first-key-spec =
     tie.close
     (tie.spec
-    Inv-loop
-    μ-loop
-    loop-holds
-    cast-if1
-    mul-if1
-    element-copy-out-if1
+    array-read-key-in-word
+    key-in-word-requires
     returns
-    add-k
-    loop-less
-    loop-again
-    returns-2)
+    array-read-key-in-word-2
+    key-in-word-requires-2
+    returns-2
+    array-read-key-in-word-3
+    key-in-word-requires-3
+    returns-3
+    array-read-key-in-word-4
+    key-in-word-requires-4
+    returns-4
+    returns-5)

@@ -1,7 +1,8 @@
 -- `canonical::open_locks` meets its contract. The loop's invariant: the keys of the entries so far have what opens them.
-use mathlib.Core.Path.{_≡_, refl, ap, _∙_}
+use mathlib.Core.Path.{_≡_, refl, sym, ap, _∙_, subst}
 use Prim.Native.Nat.{ℕ, _-_, _≤_, _<_}
 use native.Mathlib.Omega.{arith}
+use lib.Dec.{eqb}
 use lib.ListN.{length, getD, length-set}
 use lib.Seq.{getD-set-other}
 use borrow.Author.Needs.{needs}
@@ -11,18 +12,20 @@ use mir.Val.{Fits}
 use Rattle.dag.specs.Sheet.{countOf}
 use Rattle.dag.specs.Record.{entryAt}
 use Rattle.dag.proofs.Laws.Good.{good}
-use Rattle.canonical.specs.Inner.Tables.{numberIn, openIn}
+use Rattle.canonical.specs.Inner.Key.{keyKind}
+use Rattle.canonical.specs.Inner.Tables.{setIn, numberIn, soughtIn, openIn}
+use Rattle.canonical.specs.Inner.Buckets.{keyBucket, Candidates}
 use Rattle.canonical.proofs.Laws.Record.{Bytes}
-use Rattle.canonical.proofs.Laws.Opener.{Opening, opening-more, good-room, good-next}
+use Rattle.canonical.proofs.Laws.Opener.{Opening, opening-more, good-room, good-candidates, good-next}
 use Rattle.canonical.proofs.open_locks.Statement.{statement}
 use Rattle.canonical.proofs.open_locks.Tie as tie
 
 abbrev Inv-loop : tie.InvT-loop
-Inv-loop s keys₀ n i₀ keys i =
+Inv-loop s keys₀ buckets n i₀ keys i =
     (i ≤ n) × (n ≡ countOf s) × Opening (entryAt s) (countOf s) i keys × (length keys ≡ 256) × ((j : ℕ) → countOf s ≤ j → getD keys j 0 ≡ getD keys₀ j 0)
 
 abbrev μ-loop : tie.MeasureT-loop
-μ-loop s keys₀ n i₀ keys i =
+μ-loop s keys₀ buckets n i₀ keys i =
     n - i
 
 -- an entry's number is a byte
@@ -38,7 +41,7 @@ count-requires c κs = search needs
 
 loop-holds : tie.Need-loop-holds Inv-loop μ-loop
 loop-holds c = let p = c .before .before .pre in
-    (search needs, c .count .ensures, record { done = λ j l. absurd (omega arith); left = λ j l h. p .1 .1 j h }, p .1 .0, λ j l. refl)
+    (search needs, c .count .ensures, record { done = λ j l. absurd (omega arith); left = λ j l h. p .1 .1 .0 j h }, p .1 .0, λ j l. refl)
 
 cast-open-key : tie.Need-cast-open-key Inv-loop μ-loop
 cast-open-key c = omega (arith, below (c .before))
@@ -47,7 +50,15 @@ open-key-requires : tie.Need-open-key-requires Inv-loop μ-loop
 open-key-requires c κs = let l = c .before .before .loop in
     let b = c .before .before .before .before in
     let s = now (b .before .args .s) in
-    (omega (arith, good s (b .before .pre .0) .few), good-room s (bytes b) (b .before .pre .0) (l .i) (omega arith) (l .keys) (l .inv .2))
+    let h : l .i < countOf s = omega arith in
+    let key = numberIn (l .keys) (l .i) in (
+      omega (arith, good s (b .before .pre .0) .few),
+      (
+        good-room s (bytes b) (b .before .pre .0) (l .i) h (l .keys) (l .inv .2),
+        subst (λ (n : ℕ). keyKind key ≡ 7 → Candidates (λ j. eqb (numberIn (l .keys) j) (soughtIn (l .keys) key)) n (setIn (now (b .before .args .buckets)) (keyBucket (soughtIn (l .keys) key)))) (sym (l .inv .1))
+            (good-candidates s (bytes b) (b .before .pre .0) (l .i) h (l .keys) (l .inv .2) (now (b .before .args .buckets)) (b .before .pre .1 .1 .1)),
+      ),
+    )
 
 cast-keys : tie.Need-cast-keys Inv-loop μ-loop
 cast-keys c = search needs

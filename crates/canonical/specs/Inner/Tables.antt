@@ -1,7 +1,7 @@
 -- What the three tables hold: line i has the key, the set of standard entries and the representative of entry i.
 -- Defined: `RightLine`, one line of them; `RightBy`, they are right for the first n entries, with keys by a function; `Sized`, the lengths; `FilledBy`,
--- what filling them does. `Right` and `Filled`: with the keys of the entries; `Finished`: the keys have what opens a lock in them, as the tables
--- are read. `Opened`, that it was put there; `openIn`, how.
+-- what filling them does. `Right` and `Filled`: with the keys of the entries; `Finished`: the keys have what opens a lock in them, as the tables are
+-- read. `Opened`, that it was put there; `openIn` and `soughtIn`, how.
 use mathlib.Core.Path.{_≡_}
 use mathlib.Core.Bool.{cond}
 use mathlib.Core.List.{List, []}
@@ -58,10 +58,13 @@ Filled e = FilledBy (keyAt e) e
 abbrev pub Finished : (ℕ → Entry) → ℕ → List ℕ → List (List ℕ) → List ℕ → List ℕ → List (List ℕ) → List ℕ → Type 0
 Finished e n = FilledBy (openKeyAt e n) e n
 
--- the key with what opens it, where the first n lines have the keys of all halves: a lock's opener is the first with the opposite key of its key's
+-- the key that opens a lock with this key: that of the opposite half of its second part
+abbrev pub soughtIn : List ℕ → ℕ → ℕ
+soughtIn keys key = oppositeKey (numberIn keys (keyRight key))
+
+-- the key with what opens it, where the first n lines have the keys of all halves: a lock's opener is the first with the key that opens it
 unfoldable pub openIn : List ℕ → ℕ → ℕ → ℕ
-openIn keys n key =
-    cond (eqb (keyKind key) 7) (key + least (λ j. eqb (numberIn keys j) (oppositeKey (numberIn keys (keyRight key)))) n * 65536) key
+openIn keys n key = cond (eqb (keyKind key) 7) (key + least (λ j. eqb (numberIn keys j) (soughtIn keys key)) n * 65536) key
 
 -- the keys of the first n entries, with what opens a lock; every other line is as it was
 pub record Opened (e : ℕ → Entry) (n : ℕ) (keys₀ keys : List ℕ) : Type 0 where
