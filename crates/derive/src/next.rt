@@ -9,10 +9,10 @@ ghost use Rattle.bitset.specs.Words.{value};
 ghost use Rattle.deduction.specs.Setting.{switches};
 ghost use Rattle.deduction.specs.Step.{step};
 ghost use Rattle.derive.specs.Bytes.{stepOf};
-ghost use Rattle.derive.specs.Inner.Offers.{summed, nextIn};
+ghost use Rattle.derive.specs.Inner.Next.{summed, nextIn};
 ghost use Rattle.derive.specs.Inner.Step.{secondIn, stepIn};
 use crate::Step;
-use crate::rules;
+use offers::rules;
 
 // Above every step's number: nothing follows.
 pub const NO_STEP: u32 = 16777216;
@@ -34,17 +34,17 @@ fn least(a: u16, b: u16) -> u16
     a
 }
 
-// The heads that are gained as a sum: those that are sums of known terms, where the rule is switched on.
-fn gained(rules: u8, sums: [u64; 4]) -> [u64; 4]
-    ensures { λ r. ⌜ ((h : ℕ) → member (value r) h ≡ summed (switches rules) (value sums) h) ⌝ }
+// The heads that are gained as a sum: those whose line is empty, which are sums of known terms, where the rule is switched on.
+fn by_sum(rules: u8, empty: [u64; 4]) -> [u64; 4]
+    ensures { λ r. ⌜ ((h : ℕ) → member (value r) h ≡ summed (switches rules) (value empty) h) ⌝ }
 {
     if rules::is_on(rules, 6) {
-        return sums;
+        return empty;
     }
     bitset::empty()
 }
 
-// The least step that gains this head, by its offer or as a sum.
+// The least step that gains this head, by its offer or, where it is in the set sums, as a sum.
 fn least_step(best: &[u16; 256], sums: [u64; 4], head: u8) -> u32
     ensures { λ r. ⌜ r ≡ head * 65536 + cond (member (value sums) head) (min (getD (now (best .entry)) head 0) 1536) (getD (now (best .entry)) head 0) ⌝ }
 {
@@ -56,15 +56,15 @@ fn least_step(best: &[u16; 256], sums: [u64; 4], head: u8) -> u32
 }
 
 // The number of the next step, or NO_STEP.
-pub fn next(best: &[u16; 256], ready: [u64; 4], sums: [u64; 4], known: [u64; 4], rules: u8) -> u32
-    ensures { λ r. ⌜ r ≡ nextIn (switches rules) (now (best .entry)) (value ready) (value sums) (value known) ⌝ }
+pub fn next(best: &[u16; 256], ready: [u64; 4], empty: [u64; 4], known: [u64; 4], rules: u8) -> u32
+    ensures { λ r. ⌜ r ≡ nextIn (switches rules) (now (best .entry)) (value ready) (value empty) (value known) ⌝ }
 {
-    let added = gained(rules, sums);
-    let head = bitset::lowest_of(bitset::minus(bitset::union(ready, added), known));
+    let sums = by_sum(rules, empty);
+    let head = bitset::lowest_of(bitset::minus(bitset::union(ready, sums), known));
     if head == 256 {
         return NO_STEP;
     }
-    least_step(best, added, head as u8)
+    least_step(best, sums, head as u8)
 }
 
 // A step by a rule other than the sum: its set is empty.

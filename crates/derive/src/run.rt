@@ -12,14 +12,14 @@ ghost use Rattle.deduction.specs.Elimination.{Row, Knowledge, reduce, addRow};
 ghost use Rattle.knowledge.specs.Inner.Lines.{Sizes, Kept};
 ghost use Rattle.derive.specs.Bytes.{stepBytes};
 ghost use Rattle.derive.specs.Inner.Step.{stepIn};
-ghost use Rattle.derive.specs.Inner.Offers.{Adds, keyOffers, setOffers};
+ghost use Rattle.offers.specs.Inner.Offers.{keyOffers, setOffers};
+ghost use Rattle.offers.specs.Inner.Table.{Adds};
 ghost use Rattle.derive.specs.Inner.Ran.{endAs, Ready, LinesOf, Ran};
 use crate::next;
-use crate::offers;
-use crate::users;
 use crate::writer;
 use dag::sheet;
 use knowledge::lines;
+use offers::users;
 
 // How a run ends.
 pub enum Verdict {

@@ -16,10 +16,10 @@ ghost use Rattle.knowledge.specs.Inner.Lines.{lineAt};
 ghost use Rattle.verdict.specs.Inner.Decide.{reducedOf, Decided};
 use dag::Refusal;
 use dag::sheet;
-use derive::rules;
 use derive::run::Ended;
 use derive::run::Verdict;
 use front::Reduced;
+use offers::rules;
 
 mod front;
 

@@ -1,6 +1,6 @@
 -- The next step by the table of offers is the theory's.
--- Shown: all steps that follow are the offers to heads not known, and the sums;
--- `next-in`, the number of the next step by a table that holds the offers is the theory's. Assumes nothing.
+-- Shown: all steps that follow are the offers to heads not known, and the sums; `next-in`, the number of the next step by a table that holds the offers is the
+-- theory's; `sheet-least`, the same for a good sheet. Assumes nothing.
 use mathlib.Core.Path.{_≡_, refl, sym, ap, ap₂, _∙_}
 use mathlib.Core.Bool.{Bool, true, false, true≢false, cond, not, _&&_, _||_, or-true}
 use mathlib.Core.Logic.{_⊎_, inl, inr}
@@ -22,9 +22,15 @@ use Rattle.deduction.proofs.Standard.First.{both-true}
 use Rattle.deduction.proofs.Steps.Numbers.{number-head, chosen, choose, choose-not}
 use Rattle.deduction.proofs.Steps.Found.{all-offers, only-if, only-unless, ruled-as}
 use Rattle.deduction.proofs.Steps.Offers.{offers-all}
-use Rattle.derive.specs.Inner.Offers.{gives, lineOffers, plainOffers, isHead, Table, Covers, SumsOf, summed, waits, wayOf, nextIn}
+use Rattle.dag.specs.Sheet.{countOf}
+use Rattle.dag.specs.Record.{entryAt}
+use Rattle.dag.specs.Refusal.{refusal}
+use Rattle.dag.proofs.Laws.Good.{good}
+use Rattle.offers.specs.Inner.Offers.{gives, lineOffers, plainOffers, isHead}
+use Rattle.offers.specs.Inner.Table.{Table, Covers, Kept}
+use Rattle.derive.specs.Inner.Next.{SumsOf, summed, waits, wayOf, nextIn}
 use Rattle.derive.proofs.Laws.Waiting.{heads-least}
-use Rattle.derive.proofs.Laws.Offers.{from-plain, to-plain, is-head, head-is, built-head}
+use Rattle.offers.proofs.Laws.Offers.{from-plain, to-plain, is-head, head-is, built-head}
 
 -- The offers to heads not known, with and without the test inside
 module _ (on : Setting) (e : ℕ → Entry) (n g i x : ℕ) (li : i < 256) where
@@ -129,21 +135,21 @@ module _ (on : Setting) (e : ℕ → Entry) (n : ℕ) (down : Downward e n) (few
       let (l, h) = is-head e n i hi in
       at-head x i l h (choose-not (member g i) _ _ c (Memᴰ·append-right (built on e n g i (e i)) (choose (f i) _ [] s (choose (on 6) _ [] w (List·Memᴰ·head y)))))
 
--- The table holds the offers made, which are all offers as far as their heads aren't known, and sums has the heads that are sums of known ones
-module _ (on : Setting) (e : ℕ → Entry) (n : ℕ) (down : Downward e n) (few : n ≤ 256) (k : Knowledge) {best ready xs : List ℕ} (sums : ℕ)
+-- The table holds the offers made, which are all offers as far as their heads aren't known, and the set empty has the heads that are sums of known ones
+module _ (on : Setting) (e : ℕ → Entry) (n : ℕ) (down : Downward e n) (few : n ≤ 256) (k : Knowledge) {best ready xs : List ℕ} (empty : ℕ)
     (t : Table best ready xs) (c : Covers (k .known) xs (plainOffers on e n (k .known) n))
-    (s : SumsOf e n k sums) where
+    (s : SumsOf e n k empty) where
   abbrev g : ℕ
   g = k .known
 
   abbrev isSum : ℕ → Bool
-  isSum = summed on sums
+  isSum = summed on empty
 
   abbrev waiting : ℕ → Bool
-  waiting = waits on (value ready) sums g
+  waiting = waits on (value ready) empty g
 
   abbrev way : ℕ → ℕ
-  way = wayOf on best sums
+  way = wayOf on best empty
 
   way-le : (h : ℕ) → way h ≤ getD best h 0
   unfolding wayOf
@@ -192,7 +198,7 @@ module _ (on : Setting) (e : ℕ → Entry) (n : ℕ) (down : Downward e n) (few
       -- as a sum
       added : member g h ≡ false → isSum h ≡ true → way h ≡ 1536 → (way h < 65536) × List·Memᴰ (h * 65536 + way h) (allOffers on e n g (isSumOf e k) n)
       added f z q =
-          let (w, m) = both-true (on 6) (member sums h) z in
+          let (w, m) = both-true (on 6) (member empty h) z in
           let (hh, hs) = both-true (isHead e n h) (isSumOf e k h) (sym (s h l f) ∙ m) in
           (omega arith, sum-all on e n down few g (isSumOf e k) _ h (hh, f, hs, w, omega arith))
 
@@ -206,6 +212,11 @@ module _ (on : Setting) (e : ℕ → Entry) (n : ℕ) (down : Downward e n) (few
       go f false z true q u = placed f (ltb-true (getD best h 0) 65535 q) (other-way h z)
       go f false z false q u = absurd (true≢false (sym u ∙ ap₂ _||_ (t .marked h l ∙ q) z))
 
-  pub next-in : nextIn on best (value ready) sums g ≡ nextNumber on e n k
+  pub next-in : nextIn on best (value ready) empty g ≡ nextNumber on e n k
   unfolding nextIn nextNumber
   next-in = heads-least (allOffers on e n g (isSumOf e k) n) waiting way over there
+
+-- for a good sheet
+pub sheet-least : (on : Setting) (s : List ℕ) → refusal s ≡ 0 → (k : Knowledge) (empty : ℕ) {best ready : List ℕ} → Kept on (entryAt s) (countOf s) (k .known) best ready
+    → SumsOf (entryAt s) (countOf s) k empty → nextIn on best (value ready) empty (k .known) ≡ nextNumber on (entryAt s) (countOf s) k
+sheet-least on s ok k empty t = next-in on (entryAt s) (countOf s) (good s ok .downward) (good s ok .few) k empty (t .table) (t .covers)

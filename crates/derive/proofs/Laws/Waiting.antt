@@ -17,8 +17,8 @@ use Rattle.deduction.specs.Standard.{least}
 use Rattle.deduction.specs.Run.{noStep, leastOf}
 use Rattle.deduction.proofs.Standard.Least.{least-le, least-found, least-before, least-only}
 use Rattle.deduction.proofs.Steps.Numbers.{least-under, least-one}
-use Rattle.derive.specs.Inner.Offers.{summed, waits, wayOf, nextIn}
-use Rattle.derive.proofs.Laws.Table.{same-or}
+use Rattle.derive.specs.Inner.Next.{summed, waits, wayOf, nextIn}
+use Rattle.offers.proofs.Laws.Table.{same-or}
 
 -- a list whose members are of heads that pass a test, each at least the head's least, which is in the list
 module _ (xs : List ℕ) (c : ℕ → Bool) (v : ℕ → ℕ)
@@ -60,22 +60,22 @@ module _ (xs : List ℕ) (c : ℕ → Bool) (v : ℕ → ℕ)
               at (inr d) = omega (arith, own .0, lower (leastOf noStep xs) m, least-under noStep xs (lowest * 65536 + v lowest) (own .1))
 
 -- h was found as the lowest of those in w, which are those in u that aren't known; u has those that are ready and those that are sums, a
-module _ (on : Setting) (best : List ℕ) (ready sums g a u w h : ℕ) (pa : (k : ℕ) → member a k ≡ summed on sums k)
+module _ (on : Setting) (best : List ℕ) (ready empty g a u w h : ℕ) (pa : (k : ℕ) → member a k ≡ summed on empty k)
     (pu : (k : ℕ) → member u k ≡ (member ready k || member a k)) (pw : (k : ℕ) → member w k ≡ (member u k && not (member g k))) (low : LowestOf w 256 h) where
-  in-w : (k : ℕ) → member w k ≡ waits on ready sums g k
+  in-w : (k : ℕ) → member w k ≡ waits on ready empty g k
   unfolding waits
   in-w k = pw k ∙ ap (λ (b : Bool). b && not (member g k)) (pu k ∙ ap (λ (b : Bool). member ready k || b) (pa k))
 
-  found : least (waits on ready sums g) 256 ≡ h
-  found = least-only (waits on ready sums g) 256 h (low .within) (λ l. sym (in-w h) ∙ low .own l) (λ j l. sym (in-w j) ∙ low .none j l)
+  found : least (waits on ready empty g) 256 ≡ h
+  found = least-only (waits on ready empty g) 256 h (low .within) (λ l. sym (in-w h) ∙ low .own l) (λ j l. sym (in-w j) ∙ low .none j l)
 
-  pub next-none : h ≡ 256 → noStep ≡ nextIn on best ready sums g
+  pub next-none : h ≡ 256 → noStep ≡ nextIn on best ready empty g
   unfolding nextIn
-  next-none p = sym (ap (λ (b : Bool). cond b noStep (least (waits on ready sums g) 256 * 65536 + wayOf on best sums (least (waits on ready sums g) 256))) (eq-eqb (least (waits on ready sums g) 256) 256 (found ∙ p)))
+  next-none p = sym (ap (λ (b : Bool). cond b noStep (least (waits on ready empty g) 256 * 65536 + wayOf on best empty (least (waits on ready empty g) 256))) (eq-eqb (least (waits on ready empty g) 256) 256 (found ∙ p)))
 
-  pub next-found : ¬ (h ≡ 256) → h * 65536 + cond (member a h) (min (getD best h 0) 1536) (getD best h 0) ≡ nextIn on best ready sums g
+  pub next-found : ¬ (h ≡ 256) → h * 65536 + cond (member a h) (min (getD best h 0) 1536) (getD best h 0) ≡ nextIn on best ready empty g
   unfolding nextIn wayOf
   next-found d =
       ap (λ (b : Bool). h * 65536 + cond b (min (getD best h 0) 1536) (getD best h 0)) (pa h)
-      ∙ sym (ap (λ (m : ℕ). m * 65536 + wayOf on best sums m) found)
-      ∙ sym (ap (λ (b : Bool). cond b noStep (least (waits on ready sums g) 256 * 65536 + wayOf on best sums (least (waits on ready sums g) 256))) (ne-eqb (least (waits on ready sums g) 256) 256 (λ q. d (sym found ∙ q))))
+      ∙ sym (ap (λ (m : ℕ). m * 65536 + wayOf on best empty m) found)
+      ∙ sym (ap (λ (b : Bool). cond b noStep (least (waits on ready empty g) 256 * 65536 + wayOf on best empty (least (waits on ready empty g) 256))) (ne-eqb (least (waits on ready empty g) 256) 256 (λ q. d (sym found ∙ q))))

@@ -9,8 +9,8 @@ use borrow.Author.Needs.{needs}
 use Rattle.derive.proofs.next.next.Statement.{statement}
 use Rattle.derive.proofs.next.next.Tie as tie
 
-gained-requires : tie.Need-gained-requires
-gained-requires c κs = search needs
+by-sum-requires : tie.Need-by-sum-requires
+by-sum-requires c κs = search needs
 
 union-requires : tie.Need-union-requires
 union-requires c κs = search needs
@@ -27,8 +27,8 @@ returns c = let h = c .before in
     let u = w .before in
     let a = u .before in
     let s = a .before .args in
-    next-none (switches (s .rules)) (now (s .best)) (value (s .ready)) (value (s .sums)) (value (s .known)) (value (a .gained .result)) (value (u .union .result)) (value (w .minus .result)) (h .lowest-of .result)
-    (a .gained .ensures) (u .union .ensures) (w .minus .ensures) (h .lowest-of .ensures) (c .if1 .taken)
+    next-none (switches (s .rules)) (now (s .best)) (value (s .ready)) (value (s .empty)) (value (s .known)) (value (a .by-sum .result)) (value (u .union .result)) (value (w .minus .result)) (h .lowest-of .result)
+    (a .by-sum .ensures) (u .union .ensures) (w .minus .ensures) (h .lowest-of .ensures) (c .if1 .taken)
 
 cast-least-step : tie.Need-cast-least-step
 cast-least-step c = omega (arith, c .if1 .left, c .before .lowest-of .ensures .within)
@@ -43,8 +43,8 @@ returns-2 c = let h = c .before .before in
     let a = u .before in
     let s = a .before .args in
     c .least-step .ensures
-    ∙ next-found (switches (s .rules)) (now (s .best)) (value (s .ready)) (value (s .sums)) (value (s .known)) (value (a .gained .result)) (value (u .union .result)) (value (w .minus .result)) (h .lowest-of .result)
-    (a .gained .ensures) (u .union .ensures) (w .minus .ensures) (h .lowest-of .ensures) (c .before .if1 .left)
+    ∙ next-found (switches (s .rules)) (now (s .best)) (value (s .ready)) (value (s .empty)) (value (s .known)) (value (a .by-sum .result)) (value (u .union .result)) (value (w .minus .result)) (h .lowest-of .result)
+    (a .by-sum .ensures) (u .union .ensures) (w .minus .ensures) (h .lowest-of .ensures) (c .before .if1 .left)
 
 pub next-spec : {M : Type 1} → statement M
-next-spec = tie.close (tie.spec gained-requires union-requires minus-requires lowest-of-requires returns cast-least-step least-step-requires returns-2)
+next-spec = tie.close (tie.spec by-sum-requires union-requires minus-requires lowest-of-requires returns cast-least-step least-step-requires returns-2)
