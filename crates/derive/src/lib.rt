@@ -1,6 +1,6 @@
 // The steps of the intruder: which comes next, and the run that makes them.
-mod next;
 pub mod run;
+mod whole;
 mod writer;
 
 // One step (document 01: rung). A source that isn't used is 65,535.

@@ -5,3 +5,5 @@ pub mod Users
 pub mod Offers
 pub mod Keys
 pub mod Kept
+pub mod Waiting
+pub mod Next

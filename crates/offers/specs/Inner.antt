@@ -3,3 +3,4 @@ pub mod Right
 pub mod Offers
 pub mod Users
 pub mod Table
+pub mod Next

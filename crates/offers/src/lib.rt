@@ -12,6 +12,7 @@ ghost use Rattle.offers.specs.Inner.Offers.{keyOffers, tableOffers, word
 ghost use Rattle.offers.specs.Inner.Table.{Adds};
 
 mod entry;
+pub mod next;
 pub mod rules;
 mod table;
 pub mod users;

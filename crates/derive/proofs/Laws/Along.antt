@@ -27,7 +27,7 @@ use Rattle.offers.specs.Inner.Right.{Right}
 use Rattle.offers.specs.Inner.Offers.{keyOffers, setOffers}
 use Rattle.offers.specs.Inner.Users.{UsersOf}
 use Rattle.offers.specs.Inner.Table.{Adds, Kept}
-use Rattle.derive.specs.Inner.Next.{nextIn}
+use Rattle.offers.specs.Inner.Next.{nextIn}
 use Rattle.derive.specs.Inner.Step.{stepIn}
 use Rattle.derive.specs.Inner.Machine.{Ended, stepNext}
 use Rattle.derive.specs.Inner.Ran.{verdictOf, endAs, LinesOf, endOf, Ran}
@@ -39,7 +39,7 @@ use Rattle.derive.proofs.Laws.Buffer.{written-more}
 use Rattle.derive.proofs.Laws.Step.{Stepped, sheet-step}
 use Rattle.derive.proofs.Laws.Lines.{live-head, sums-of, used-of}
 use Rattle.offers.proofs.Laws.Kept.{sheet-learn}
-use Rattle.derive.proofs.Laws.Next.{sheet-least}
+use Rattle.offers.proofs.Laws.Next.{sheet-least}
 
 pub record Safe (s keys reps : List ℕ) (budget front : ℕ) (out₀ : List ℕ) (n goal-head : ℕ) (users remainders used columns : List (List ℕ)) (empty have : List ℕ) (made : ℕ) (out : List ℕ) : Type 0 where
   pub good : refusal s ≡ 0

@@ -14,7 +14,7 @@ use Rattle.deduction.specs.Run.{isSumOf}
 use Rattle.knowledge.specs.Inner.Lines.{Kept, headIn}
 use Rattle.offers.specs.Inner.Right.{Right}
 use Rattle.offers.specs.Inner.Offers.{isHead}
-use Rattle.derive.specs.Inner.Next.{SumsOf}
+use Rattle.offers.specs.Inner.Next.{SumsOf}
 use Rattle.offers.proofs.Laws.Offers.{head-is}
 use Rattle.derive.proofs.Laws.Step.{UsedOf}
 

@@ -26,11 +26,11 @@ use Rattle.dag.specs.Sheet.{countOf}
 use Rattle.dag.specs.Record.{entryAt}
 use Rattle.dag.specs.Refusal.{refusal}
 use Rattle.dag.proofs.Laws.Good.{good}
 use Rattle.offers.specs.Inner.Offers.{gives, lineOffers, plainOffers, isHead}
 use Rattle.offers.specs.Inner.Table.{Table, Covers, Kept}
-use Rattle.derive.specs.Inner.Next.{SumsOf, summed, waits, wayOf, nextIn}
-use Rattle.derive.proofs.Laws.Waiting.{heads-least}
+use Rattle.offers.specs.Inner.Next.{SumsOf, summed, waits, wayOf, nextIn}
+use Rattle.offers.proofs.Laws.Waiting.{heads-least}
 use Rattle.offers.proofs.Laws.Offers.{from-plain, to-plain, is-head, head-is, built-head}
 
 -- The offers to heads not known, with and without the test inside
 module _ (on : Setting) (e : ℕ → Entry) (n g i x : ℕ) (li : i < 256) where

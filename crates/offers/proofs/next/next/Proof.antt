@@ -1,13 +1,13 @@
--- `derive::next::next` meets its contract: by the lowest head that waits.
+-- `offers::next::next` meets its contract: by the lowest head that waits.
 use mathlib.Core.Path.{_∙_}
 use native.Mathlib.Omega.{arith}
 use denote.Ref.{now}
 use Rattle.bitset.specs.Words.{value}
 use Rattle.deduction.specs.Setting.{switches}
-use Rattle.derive.proofs.Laws.Waiting.{next-none, next-found}
+use Rattle.offers.proofs.Laws.Waiting.{next-none, next-found}
 use borrow.Author.Needs.{needs}
-use Rattle.derive.proofs.next.next.Statement.{statement}
-use Rattle.derive.proofs.next.next.Tie as tie
+use Rattle.offers.proofs.next.next.Statement.{statement}
+use Rattle.offers.proofs.next.next.Tie as tie
 
 by-sum-requires : tie.Need-by-sum-requires
 by-sum-requires c κs = search needs

@@ -1,14 +1,14 @@
--- `derive::next::by_sum` meets its contract: by the rule's switch.
+-- `offers::next::by_sum` meets its contract: by the rule's switch.
 use mathlib.Core.Path.{sym, ap, _∙_}
 use mathlib.Core.Bool.{Bool, _&&_}
 use Prim.Native.Nat.{ℕ}
 use Rattle.bitset.specs.Set.{member}
 use Rattle.bitset.specs.Words.{value}
 use Rattle.bitset.proofs.Laws.Member.{member-empty}
-use Rattle.derive.specs.Inner.Next.{summed}
+use Rattle.offers.specs.Inner.Next.{summed}
 use borrow.Author.Needs.{needs}
-use Rattle.derive.proofs.next.by_sum.Statement.{statement}
-use Rattle.derive.proofs.next.by_sum.Tie as tie
+use Rattle.offers.proofs.next.by_sum.Statement.{statement}
+use Rattle.offers.proofs.next.by_sum.Tie as tie
 
 is-on-requires : tie.Need-is-on-requires
 is-on-requires c κs = search needs

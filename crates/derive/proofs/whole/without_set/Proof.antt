@@ -1,9 +1,9 @@
--- `derive::next::without_set` meets its contract: the set is empty.
+-- `derive::whole::without_set` meets its contract: the set is empty.
 use mathlib.Core.Path.{ap}
 use borrow.Author.Needs.{needs}
 use Rattle.deduction.specs.Step.{step}
-use Rattle.derive.proofs.next.without_set.Statement.{statement}
-use Rattle.derive.proofs.next.without_set.Tie as tie
+use Rattle.derive.proofs.whole.without_set.Statement.{statement}
+use Rattle.derive.proofs.whole.without_set.Tie as tie
 
 empty-requires : tie.Need-empty-requires
 empty-requires c κs = search needs

@@ -1,9 +1,9 @@
--- `derive::next::least_step` meets its contract: by the test whether the head is a sum.
+-- `offers::next::least_step` meets its contract: by the test whether the head is a sum.
 use mathlib.Core.Path.{sym, ap, _∙_}
 use Prim.Native.Nat.{ℕ, _+_, _*_}
 use borrow.Author.Needs.{needs}
-use Rattle.derive.proofs.next.least_step.Statement.{statement}
-use Rattle.derive.proofs.next.least_step.Tie as tie
+use Rattle.offers.proofs.next.least_step.Statement.{statement}
+use Rattle.offers.proofs.next.least_step.Tie as tie
 
 mul-b : tie.Need-mul-b
 mul-b c = search needs

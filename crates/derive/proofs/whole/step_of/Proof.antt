@@ -1,11 +1,11 @@
--- `derive::next::step_of` meets its contract: a sum, or any other rule.
+-- `derive::whole::step_of` meets its contract: a sum, or any other rule.
 use mathlib.Core.Path.{_∙_}
 use borrow.Author.Needs.{needs}
 use denote.Ref.{now}
 use Rattle.derive.specs.Inner.Step.{stepIn}
 use Rattle.derive.proofs.Laws.Step.{step-other, step-sum}
-use Rattle.derive.proofs.next.step_of.Statement.{statement}
-use Rattle.derive.proofs.next.step_of.Tie as tie
+use Rattle.derive.proofs.whole.step_of.Statement.{statement}
+use Rattle.derive.proofs.whole.step_of.Tie as tie
 
 cast-head : tie.Need-cast-head
 cast-head c = search needs

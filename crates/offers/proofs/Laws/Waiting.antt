@@ -17,8 +17,8 @@ use Rattle.deduction.specs.Standard.{least}
 use Rattle.deduction.specs.Run.{noStep, leastOf}
 use Rattle.deduction.proofs.Standard.Least.{least-le, least-found, least-before, least-only}
 use Rattle.deduction.proofs.Steps.Numbers.{least-under, least-one}
-use Rattle.derive.specs.Inner.Next.{summed, waits, wayOf, nextIn}
+use Rattle.offers.specs.Inner.Next.{summed, waits, wayOf, nextIn}
 use Rattle.offers.proofs.Laws.Table.{same-or}
 
 -- a list whose members are of heads that pass a test, each at least the head's least, which is in the list
 module _ (xs : List ℕ) (c : ℕ → Bool) (v : ℕ → ℕ)

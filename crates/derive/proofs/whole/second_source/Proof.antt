@@ -1,9 +1,9 @@
--- `derive::next::second_source` meets its contract: by the rule.
+-- `derive::whole::second_source` meets its contract: by the rule.
 use borrow.Author.Needs.{needs}
 use denote.Ref.{now}
 use Rattle.derive.proofs.Laws.Step.{second-none, second-key, second-opener, second-built}
-use Rattle.derive.proofs.next.second_source.Statement.{statement}
-use Rattle.derive.proofs.next.second_source.Tie as tie
+use Rattle.derive.proofs.whole.second_source.Statement.{statement}
+use Rattle.derive.proofs.whole.second_source.Tie as tie
 
 returns : tie.Need-returns
 returns c = let a = c .before .args in
