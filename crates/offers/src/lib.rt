@@ -109,8 +109,9 @@ pub fn offers_of(
     requires { ⌜ FourWords (now known) ⌝ }
     ensures { λ _. ⌜ Adds (now (best .entry)) (now (ready .entry)) (now (best .exit)) (now (ready .exit)) (setOffers (switches rules) (value (now (known .entry))) (now (keys .entry)) (value users) 256) ⌝ }
 {
-    offers_of_word(best, ready, known, rules, keys, users[0], 0);
-    offers_of_word(best, ready, known, rules, keys, users[1], 64);
-    offers_of_word(best, ready, known, rules, keys, users[2], 128);
-    offers_of_word(best, ready, known, rules, keys, users[3], 192);
+    let mut w: usize = 0;
+    while w < 4 {
+        offers_of_word(best, ready, known, rules, keys, users[w], (w * 64) as u8);
+        w += 1;
+    }
 }

@@ -1,5 +1,6 @@
 -- The lists of a set's members in a row, taken from the lowest member on and word by word.
--- Shown: `lists-first` and `lists-next`, the lowest member's list and then the rest's; `lists-empty`, none; `lists-words`, the lists of a set are those of its four words. Assumes nothing.
+-- Shown: `lists-first` and `lists-next`, the lowest member's list and then the rest's; `lists-empty`, none; `lists-word`, the lists of a set go on with those of its next
+-- word. Assumes nothing.
 use mathlib.Core.Path.{_≡_, refl, sym, ap, ap₂, _∙_}
 use mathlib.Core.Bool.{Bool, true, false, xor, cond}
 use mathlib.Core.Logic.{_⊎_, inl, inr}
@@ -76,7 +77,7 @@ lists-split f s w a (suc m) h =
     ∙ ap₂ (λ (xs : List ℕ) (b : Bool). xs ++ cond b (f (a + m)) []) (lists-split f s w a m (λ k l. h k (omega arith))) (h m (omega arith))
     ∙ append-assoc (listsOf f s a) (listsOf (λ k. f (a + k)) w m) (cond (member w m) (f (a + m)) [])
 
--- of four words
+-- of words
 module _ (f : ℕ → List ℕ) (ws : List ℕ) (h : Below 64 ws) where
   at : (q : ℕ) → (k : ℕ) → k < 64 → member (value ws) (q * 64 + k) ≡ member (getD ws q 0) k
   at q k l = word-member ws h (q * 64 + k) ∙ ap₂ (λ (x y : ℕ). member (getD ws x 0) y) word place
@@ -87,13 +88,9 @@ module _ (f : ℕ → List ℕ) (ws : List ℕ) (h : Below 64 ws) where
       place : (q * 64 + k) % 64 ≡ k
       place = omega arith
 
-  abbrev inWord : ℕ → List ℕ
-  inWord q = listsOf (λ k. f (q * 64 + k)) (getD ws q 0) 64
-
-  pub lists-words : (inWord 0 ++ inWord 1) ++ inWord 2 ++ inWord 3 ≡ listsOf f (value ws) 256
-  unfolding listsOf
-  lists-words =
-      sym (lists-split f (value ws) (getD ws 3 0) 192 64 (at 3)
-      ∙ ap (λ (xs : List ℕ). xs ++ inWord 3) (lists-split f (value ws) (getD ws 2 0) 128 64 (at 2)
-      ∙ ap (λ (xs : List ℕ). xs ++ inWord 2) (lists-split f (value ws) (getD ws 1 0) 64 64 (at 1)
-      ∙ ap (λ (xs : List ℕ). xs ++ inWord 1) (lists-split f (value ws) (getD ws 0 0) 0 64 (at 0)))))
+  -- one word more
+  pub lists-word : (q : ℕ) → listsOf f (value ws) (q * 64) ++ listsOf (λ k. f (q * 64 + k)) (getD ws q 0) 64 ≡ listsOf f (value ws) ((q + 1) * 64)
+  lists-word q = sym (lists-split f (value ws) (getD ws q 0) (q * 64) 64 (at q)) ∙ ap (listsOf f (value ws)) next
+    where
+      next : q * 64 + 64 ≡ (q + 1) * 64
+      next = omega arith
