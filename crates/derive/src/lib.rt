@@ -1,4 +1,4 @@
-// The steps of the intruder: which comes next, and the run that makes them.
+// The steps of the intruder: the whole step of a number, and the run that makes steps.
 pub mod run;
 mod whole;
 mod writer;

@@ -1,6 +1,7 @@
 -- What a run needs and what it hands back.
 -- Defined: `verdictOf`, the verdict that the program's answer names; `endAs`, the end of a run; `Ready`, the tables and the buffer at the start; `LinesOf`,
--- the lines are right by the rows; `endOf`, the run from a state; `Ran`, all that holds at the end for a state k at the start: verdict, count, the known set, the lines, and every byte of the buffer.
+-- the lines are right by the rows; `endOf`, the run from a state; `Ran`, all that holds at the end for a state k at the start: verdict, count, the known set, the
+-- lines, and every byte of the buffer.
 use Prim.Native.Nat.{ℕ, _+_, _*_, _≤_}
 use mathlib.Core.Path.{_≡_}
 use mathlib.Core.List.{List, _++_}

@@ -1,6 +1,6 @@
 -- The offers after one more head is known.
 -- Shown: where an offer comes from; offers that stay, `gives-stay`, `built-stay`; offers that are the same, `line-same`; `covers-learn`, the offers of the
--- head learnt and of those that it is a part of are all that are new. Assumes nothing.
+-- head learnt and of its users are all that are new. Assumes nothing.
 use mathlib.Core.Path.{_≡_, refl, sym, ap, ap₂, _∙_, subst}
 use mathlib.Core.Bool.{Bool, true, false, true≢false, cond, _&&_, _||_, or-false}
 use mathlib.Core.Logic.{_⊎_, inl, inr}
