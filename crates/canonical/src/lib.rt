@@ -212,7 +212,7 @@ fn sum_of_items(r: &[u8], sets: &[[u64; 4]; 256]) -> [u64; 4]
 }
 
 // Does a record of this kind have two parts?
-fn has_parts(kind: u8) -> bool
+pub fn has_parts(kind: u8) -> bool
     ensures { λ r. ⌜ r ≡ (eqb kind 2 || (eqb kind 3 || eqb kind 7)) ⌝ }
 {
     if kind == 2 {

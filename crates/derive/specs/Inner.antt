@@ -1,5 +1,4 @@
 -- What the contracts of inner functions cite. Nobody has to believe it: proved laws tie it to the definitions beside this folder and below this crate.
-pub mod Offers
 pub mod Step
 pub mod Machine
 pub mod Ran

@@ -1,9 +1,6 @@
-// The steps of the intruder: which comes next, and the run that makes them.
-mod next;
-mod offers;
-pub mod rules;
+// The steps of the intruder: the whole step of a number, and the run that makes steps.
 pub mod run;
-mod users;
+mod whole;
 mod writer;
 
 // One step (document 01: rung). A source that isn't used is 65,535.

@@ -12,14 +12,15 @@ ghost use Rattle.deduction.specs.Elimination.{Row, Knowledge, reduce, addRow};
 ghost use Rattle.knowledge.specs.Inner.Lines.{Sizes, Kept};
 ghost use Rattle.derive.specs.Bytes.{stepBytes};
 ghost use Rattle.derive.specs.Inner.Step.{stepIn};
-ghost use Rattle.derive.specs.Inner.Offers.{Adds, keyOffers, setOffers};
+ghost use Rattle.offers.specs.Inner.Offers.{keyOffers, setOffers};
+ghost use Rattle.offers.specs.Inner.Table.{Adds};
 ghost use Rattle.derive.specs.Inner.Ran.{endAs, Ready, LinesOf, Ran};
-use crate::next;
-use crate::offers;
-use crate::users;
+use crate::whole;
 use crate::writer;
 use dag::sheet;
 use knowledge::lines;
+use offers::next;
+use offers::users;
 
 // How a run ends.
 pub enum Verdict {
@@ -62,7 +63,7 @@ fn make(
     ensures sizes { λ _. ⌜ Sizes (now (remainders .exit)) (now (used .exit)) (now (empty .exit)) × (length (now (columns .exit)) ≡ 256) ⌝ }
     ensures lines { λ _. ⌜ ((live : ℕ → Bool) (s : ℕ → ℕ) (rows : List Row) → live head ≡ true → Kept live s rows (now (remainders .entry)) (now (used .entry)) (now (columns .entry)) (now (empty .entry)) → Kept live s (addRow rows head (reduce rows (s head))) (now (remainders .exit)) (now (used .exit)) (now (columns .exit)) (now (empty .exit))) ⌝ }
 {
-    let step = next::step_of(x, keys, used);
+    let step = whole::step_of(x, keys, used);
     writer::write_step(step, out);
     lines::sweep(remainders, used, columns, empty, head);
 }

@@ -9,8 +9,8 @@ ghost use Rattle.derive.specs.Inner.Ran.{verdictOf};
 ghost use Rattle.verdict.specs.Buffer.{front};
 ghost use Rattle.verdict.specs.Answer.{missingAs, frontBytes};
 ghost use Rattle.verdict.specs.Inner.Decide.{isUnderivable, reducedOf, missingIn};
-use derive::rules;
 use derive::run::Verdict;
+use offers::rules;
 
 // How many bytes stand before the first step: three sets.
 pub const FRONT: usize = 96;

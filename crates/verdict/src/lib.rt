@@ -20,10 +20,10 @@ ghost use Rattle.derive.specs.Inner.Ran.{Ready};
 ghost use Rattle.verdict.specs.Inner.Decide.{reducedOf, AtStart, Decided};
 use dag::Refusal;
 use dag::sheet;
-use derive::rules;
 use derive::run::Ended;
 use derive::run::Verdict;
 use front::Reduced;
+use offers::rules;
 
 mod front;
 

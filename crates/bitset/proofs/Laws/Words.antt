@@ -1,6 +1,6 @@
 -- The set that a list of words holds, for any number of words.
 -- Shown: a part of at most 64 bits that lies in one word is that word's; so are members and bytes; the sum is word by word; a list is
--- known by its value; a word set among zeros; the leading entry and the count of members. Assumes nothing.
+-- known by its value; words of zeros, and one word set among them; the leading entry and the count of members. Assumes nothing.
 use mathlib.Core.Path.{_≡_, refl, sym, ap, ap₂, _∙_}
 use mathlib.Core.Bool.{false, cond}
 use mathlib.Core.Logic.{by-cases}
@@ -16,6 +16,7 @@ use borrow.Author.Tests.{eq-eqb, ne-eqb}
 use lib.ListN.{length, getD, set}
 use Rattle.bitset.specs.Words.{packed, value, byteOf}
 use Rattle.bitset.specs.Set.{member, leading}
+use Rattle.bitset.specs.Inner.{FourWords}
 use Rattle.bitset.proofs.Laws.Leading.{leading-between, leading-member, leading-high}
 use Rattle.bitset.proofs.Laws.Member.{member-le}
 use lib.Arith.{digits-lt}
@@ -150,6 +151,14 @@ word-among (suc zero) x l = refl
 word-among (suc (suc zero)) x l = refl
 word-among (suc (suc (suc zero))) x l = refl
 word-among (suc (suc (suc (suc w)))) x l = absurd (omega arith)
+
+-- four words of zeros, and the empty set that they hold
+pub words-zero : FourWords (0 ∷ 0 ∷ 0 ∷ 0 ∷ [])
+words-zero = record { four = refl; below = λ i. omega (arith, zeros i) }
+
+pub value-zero : value (0 ∷ 0 ∷ 0 ∷ 0 ∷ []) ≡ 0
+unfolding packed
+value-zero = refl
 
 -- one bit among four words of zeros
 pub value-single : (w b : ℕ) → w < 4 → b < 64 → (x₀ x₁ x₂ x₃ : ℕ) → x₀ ≡ cond (eqb w 0) (1 * 2 ^ b % 2 ^ 64) 0 → x₁ ≡ cond (eqb w 1) (1 * 2 ^ b % 2 ^ 64) 0

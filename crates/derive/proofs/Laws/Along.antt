@@ -23,8 +23,12 @@ use Rattle.canonical.proofs.Laws.Record.{Bytes}
 use Rattle.knowledge.specs.Inner.Lines.{Sizes, setIn, Kept as KeptLines, headIn}
 use Rattle.knowledge.proofs.Laws.Learn.{learn-known, learn-rows}
 use Rattle.derive.specs.Bytes.{stepBytes, stepsBytes}
-use Rattle.derive.specs.Inner.Step.{Right, stepIn}
-use Rattle.derive.specs.Inner.Offers.{keyOffers, setOffers, UsersOf, Adds, Kept, nextIn}
+use Rattle.offers.specs.Inner.Right.{Right}
+use Rattle.offers.specs.Inner.Offers.{keyOffers, setOffers}
+use Rattle.offers.specs.Inner.Users.{UsersOf}
+use Rattle.offers.specs.Inner.Table.{Adds, Kept}
+use Rattle.offers.specs.Inner.Next.{nextIn}
+use Rattle.derive.specs.Inner.Step.{stepIn}
 use Rattle.derive.specs.Inner.Machine.{Ended, stepNext}
 use Rattle.derive.specs.Inner.Ran.{verdictOf, endAs, LinesOf, endOf, Ran}
 use Rattle.derive.specs.declared.run.Verdict.{Verdict}
@@ -34,7 +38,8 @@ use Rattle.derive.proofs.Laws.Machine.{prepend, prepend-more, prepend-v
 use Rattle.derive.proofs.Laws.Buffer.{written-more}
 use Rattle.derive.proofs.Laws.Step.{Stepped, sheet-step}
 use Rattle.derive.proofs.Laws.Lines.{live-head, sums-of, used-of}
-use Rattle.derive.proofs.Laws.Kept.{sheet-learn, sheet-least}
+use Rattle.offers.proofs.Laws.Kept.{sheet-learn}
+use Rattle.offers.proofs.Laws.Next.{sheet-least}
 
 pub record Safe (s keys reps : List ℕ) (budget front : ℕ) (out₀ : List ℕ) (n goal-head : ℕ) (users remainders used columns : List (List ℕ)) (empty have : List ℕ) (made : ℕ) (out : List ℕ) : Type 0 where
   pub good : refusal s ≡ 0
@@ -111,7 +116,7 @@ module _ {on : Setting} {s keys reps : List ℕ} {k : Knowledge} {budget front :
       found : x ≡ theory.nextNumber on (entryAt s) (countOf s) (a .state)
       found =
           search ∙ ap (nextIn on best (value ready) (value empty)) (a .known)
-          ∙ sheet-least on s (z .good) elements keys reps (z .right) (a .state) (value empty) (subst (λ (g : ℕ). Kept on (entryAt s) (countOf s) g best ready) (a .known) (a .offers))
+          ∙ sheet-least on s (z .good) (a .state) (value empty) (subst (λ (g : ℕ). Kept on (entryAt s) (countOf s) g best ready) (a .known) (a .offers))
           (sums-of (entryAt s) (countOf s) keys reps (z .right) (a .state) (a .lines))
 
       pub along-underivable : {r : program.Ended} → x ≡ theory.noStep → r ≡ endAs Underivable made have → Ran on s reps k budget front out₀ r remainders used columns empty out

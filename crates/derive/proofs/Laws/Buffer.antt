@@ -62,17 +62,6 @@ module _ (front : ℕ) (out₀ : List ℕ) (ss : List Step) (made : ℕ) (many :
       later : front + 40 * made + 40 ≡ front + 40 * (made + 1)
       later = omega arith
 
-  pub written-length : (out : List ℕ) → out ≡ take front out₀ ++ (stepsBytes ss ++ drop (front + 40 * made) out₀) → front + 40 * made ≤ length out₀ → length out ≡ length out₀
-  unfolding begun
-  written-length out p h =
-      ap length (p ∙ sym (append-assoc (take front out₀) (stepsBytes ss) (drop (front + 40 * made) out₀)))
-      ∙ length-append begun (drop (front + 40 * made) out₀)
-      ∙ ap₂ _+_ begun-length (length-drop (front + 40 * made) out₀)
-      ∙ back (front + 40 * made) (length out₀) h
-    where
-      back : (a b : ℕ) → a ≤ b → a + (b - a) ≡ b
-      back a b l = omega arith
-
 -- the part of a buffer from a place on, lent and given back
 module _ (out : List ℕ) (from : ℕ) where
   pub part-whole : take (length out - from) (drop from out) ≡ drop from out

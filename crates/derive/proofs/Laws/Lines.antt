@@ -12,9 +12,10 @@ use Rattle.deduction.specs.Standard.{setAt, repAt}
 use Rattle.deduction.specs.Elimination.{Reduced, Knowledge, reduce}
 use Rattle.deduction.specs.Run.{isSumOf}
 use Rattle.knowledge.specs.Inner.Lines.{Kept, headIn}
-use Rattle.derive.specs.Inner.Step.{Right}
-use Rattle.derive.specs.Inner.Offers.{isHead, SumsOf}
-use Rattle.derive.proofs.Laws.Offers.{head-is}
+use Rattle.offers.specs.Inner.Right.{Right}
+use Rattle.offers.specs.Inner.Offers.{isHead}
+use Rattle.offers.specs.Inner.Next.{SumsOf}
+use Rattle.offers.proofs.Laws.Offers.{head-is}
 use Rattle.derive.proofs.Laws.Step.{UsedOf}
 
 module _ (e : ℕ → Entry) (n : ℕ) (keys reps : List ℕ) (right : Right e n keys reps) where

@@ -30,8 +30,9 @@ use Rattle.canonical.specs.Inner.Key.{keyOf, keyAt, keyRight, keyOpener, opener
 use Rattle.canonical.proofs.Laws.Key.{Narrow, key-form}
 use Rattle.canonical.proofs.Laws.Record.{Bytes, narrow-bytes}
 use Rattle.knowledge.specs.Inner.Lines.{setIn}
-use Rattle.derive.specs.Inner.Step.{Right, secondIn, lineStep, stepIn}
-use Rattle.derive.proofs.Laws.Keys.{open-opener}
+use Rattle.offers.specs.Inner.Right.{Right}
+use Rattle.derive.specs.Inner.Step.{secondIn, lineStep, stepIn}
+use Rattle.offers.proofs.Laws.Keys.{open-opener}
 
 -- the second source of a step, by its rule
 module _ (keys : List ℕ) (h r i : ℕ) where

@@ -1,5 +1,5 @@
 -- The run from a state of knowledge, as the program makes it: the same as `run` from the list of heads learnt (proofs/Laws/Machine.antt).
--- Defined: `Ended`, how a run ends; `machine`, the run.
+-- Defined: `Ended`, how a run ends; `stepNext`, the next step; `stopped`, the end of a run that makes no more steps; `follow`, a step before a run; `machine`, the run.
 use Prim.Native.Nat.{ℕ, zero, suc}
 use mathlib.Core.Bool.{true, false, cond, not, _&&_}
 use mathlib.Core.List.{List, [], _∷_}

@@ -1,6 +1,7 @@
 -- What a run needs and what it hands back.
--- Defined: `verdictOf`, the verdict that the program's answer names; `endAs`, the end of a run; `Ready`, the tables and the buffer at the start; `Ran`, all that
--- holds at the end for a state k at the start: verdict, count, the known set, the lines, and every byte of the buffer.
+-- Defined: `verdictOf`, the verdict that the program's answer names; `endAs`, the end of a run; `Ready`, the tables and the buffer at the start; `LinesOf`,
+-- the lines are right by the rows; `endOf`, the run from a state; `Ran`, all that holds at the end for a state k at the start: verdict, count, the known set, the
+-- lines, and every byte of the buffer.
 use Prim.Native.Nat.{ℕ, _+_, _*_, _≤_}
 use mathlib.Core.Path.{_≡_}
 use mathlib.Core.List.{List, _++_}
@@ -15,7 +16,7 @@ use Rattle.dag.specs.Record.{entryAt}
 use Rattle.dag.specs.Refusal.{refusal}
 use Rattle.knowledge.specs.Inner.Lines.{Sizes, Kept, headIn}
 use Rattle.derive.specs.Bytes.{stepsBytes}
-use Rattle.derive.specs.Inner.Step.{Right}
+use Rattle.offers.specs.Inner.Right.{Right}
 use Rattle.derive.specs.Inner.Machine.{Ended, machine}
 use Rattle.derive.specs.declared.run.Verdict.{Verdict}
 use Rattle.derive.specs.declared.run.Verdict.the-variants.{Derivable, Underivable, Exhausted}

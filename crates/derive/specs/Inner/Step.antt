@@ -1,22 +1,14 @@
 -- The whole step of a number, read off the tables: the keys, which have what opens a lock in them, and for a sum the line's used set.
--- Defined: `Right`, the tables of keys and representatives are right; `secondIn`; `stepIn`, the whole step. That it is the step of the theory is a
--- law (proofs/Laws/Step.antt).
-use Prim.Native.Nat.{ℕ, _/_, _%_, _<_}
-use mathlib.Core.Path.{_≡_}
+-- Defined: `secondIn`, the second source; `lineStep`, the step of a head, a rule and a first source; `stepIn`, the step of a number. That it is the step of the
+-- theory is a law (proofs/Laws/Step.antt).
+use Prim.Native.Nat.{ℕ, _/_, _%_}
 use mathlib.Core.Bool.{cond}
 use mathlib.Core.List.{List}
 use lib.Dec.{eqb, ltb}
 use lib.ListN.{getD}
-use Rattle.deduction.specs.Entry.{Entry}
-use Rattle.deduction.specs.Standard.{repAt}
 use Rattle.deduction.specs.Step.{Step, step, unused}
-use Rattle.canonical.specs.Inner.Key.{keyRight, keyOpener, openKeyAt}
+use Rattle.canonical.specs.Inner.Key.{keyRight, keyOpener}
 use Rattle.knowledge.specs.Inner.Lines.{setIn}
-
--- the tables of keys and representatives are right for the first n entries
-pub record Right (e : ℕ → Entry) (n : ℕ) (keys reps : List ℕ) : Type 0 where
-  pub key : (i : ℕ) → i < n → getD keys i 0 ≡ openKeyAt e n i
-  pub rep : (i : ℕ) → i < n → getD reps i 0 ≡ repAt e i
 
 -- the second source of a step by a rule other than the sum, read off the keys
 unfoldable pub secondIn : List ℕ → ℕ → ℕ → ℕ → ℕ

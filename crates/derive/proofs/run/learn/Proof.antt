@@ -7,8 +7,8 @@ use borrow.Author.Needs.{needs}
 use denote.Ref.{now}
 use Rattle.bitset.specs.Words.{value}
 use Rattle.deduction.specs.Setting.{switches}
-use Rattle.derive.specs.Inner.Offers.{keyOffers, setOffers}
-use Rattle.derive.proofs.Laws.Table.{adds-then, adds-as}
+use Rattle.offers.specs.Inner.Offers.{keyOffers, setOffers}
+use Rattle.offers.proofs.Laws.Table.{adds-then, adds-as}
 use Rattle.derive.proofs.run.learn.Statement.{statement}
 use Rattle.derive.proofs.run.learn.Tie as tie
 

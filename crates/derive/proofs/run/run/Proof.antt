@@ -20,7 +20,7 @@ use Rattle.derive.specs.Inner.Step.{stepIn}
 use Rattle.derive.specs.Inner.Ran.{LinesOf}
 use Rattle.derive.proofs.Laws.Along.{Safe, Along, along-start, along-derivable, along-underivable, along-exhausted, along-step}
 use Rattle.derive.proofs.Laws.Buffer.{part-room, part-back, part-length}
-use Rattle.derive.proofs.Laws.Kept.{sheet-start, sheet-users}
+use Rattle.offers.proofs.Laws.Kept.{sheet-start, sheet-users}
 use Rattle.derive.proofs.run.run.Statement.{statement}
 use Rattle.derive.proofs.run.run.Tie as tie
 

@@ -1,0 +1,9 @@
+pub mod Table
+pub mod Gives
+pub mod Members
+pub mod Users
+pub mod Offers
+pub mod Keys
+pub mod Kept
+pub mod Waiting
+pub mod Next
