@@ -136,13 +136,12 @@ four (a ∷ b ∷ c ∷ []) p = absurd (omega arith)
 four (a ∷ b ∷ c ∷ d ∷ []) p = refl
 four (a ∷ b ∷ c ∷ d ∷ x ∷ l) p = absurd (omega arith)
 
--- four words of zeros
-pub words-zero : (q : ℕ) → _≡_ {A = ℕ} (getD (0 ∷ 0 ∷ 0 ∷ 0 ∷ []) q 0) 0
-words-zero zero = refl
-words-zero (suc zero) = refl
-words-zero (suc (suc zero)) = refl
-words-zero (suc (suc (suc zero))) = refl
-words-zero (suc (suc (suc (suc q)))) = refl
+zeros : (q : ℕ) → _≡_ {A = ℕ} (getD (0 ∷ 0 ∷ 0 ∷ 0 ∷ []) q 0) 0
+zeros zero = refl
+zeros (suc zero) = refl
+zeros (suc (suc zero)) = refl
+zeros (suc (suc (suc zero))) = refl
+zeros (suc (suc (suc (suc q)))) = refl
 
 -- a word among words of zeros
 word-among : (w x : ℕ) → w < 4 → (cond (eqb w 0) x 0 ∷ cond (eqb w 1) x 0 ∷ cond (eqb w 2) x 0 ∷ cond (eqb w 3) x 0 ∷ []) ≡ set (0 ∷ 0 ∷ 0 ∷ 0 ∷ []) w x
@@ -167,7 +166,7 @@ unfolding packed
 value-single w b l m x₀ x₁ x₂ x₃ p₀ p₁ p₂ p₃ =
     ap₂ (λ (y z : List ℕ). value (y ++ z)) (ap₂ (λ (y z : ℕ). y ∷ z ∷ []) p₀ p₁) (ap₂ (λ (y z : ℕ). y ∷ z ∷ []) p₂ p₃)
     ∙ ap value (word-among w (1 * 2 ^ b % 2 ^ 64) l)
-    ∙ ap (λ (x : ℕ). value (set (0 ∷ 0 ∷ 0 ∷ 0 ∷ []) w x)) (exact ∙ ap (λ (x : ℕ). x + 2 ^ b) (sym (words-zero w)))
+    ∙ ap (λ (x : ℕ). value (set (0 ∷ 0 ∷ 0 ∷ 0 ∷ []) w x)) (exact ∙ ap (λ (x : ℕ). x + 2 ^ b) (sym (zeros w)))
     ∙ packed-add 64 (0 ∷ 0 ∷ 0 ∷ 0 ∷ []) w (2 ^ b) l
     ∙ zero-add (2 ^ b * 2 ^ (w * 64))
     ∙ sym (pow-add 2 b (w * 64))

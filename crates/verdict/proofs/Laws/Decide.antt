@@ -1,15 +1,13 @@
 -- From the run over the tables to the verdict on a sheet. Assumes nothing.
 use mathlib.Core.Path.{_≡_, refl, ap, ap₂, _∙_}
 use mathlib.Core.Bool.{true, _&&_}
-use mathlib.Core.List.{List, [], _∷_, _++_}
+use mathlib.Core.List.{List, _++_}
 use Prim.Native.Nat.{ℕ, zero, suc, _+_, _*_, _≤_, _<_}
 use native.Mathlib.Omega.{arith}
 use lib.ListN.{length, getD, take, drop, replicate}
 use lib.Seq.{drop-at, length-take-le}
 use borrow.Author.Tests.{eq-eqb, lt-ltb}
 use Rattle.bitset.specs.Words.{packed, value}
-use Rattle.bitset.specs.Inner.{FourWords}
-use Rattle.bitset.proofs.Laws.Words.{words-zero}
 use Rattle.deduction.specs.Setting.{Setting}
 use Rattle.deduction.specs.Standard.{setAt, repAt}
 use Rattle.deduction.specs.Elimination.{reduce}
@@ -30,19 +28,12 @@ use Rattle.start.specs.Start.{startHeads}
 use Rattle.verdict.specs.Inner.Decide.{reducedOf, missingIn, Decided}
 use Rattle.verdict.proofs.Laws.Front.{missing-by-rows}
 
--- the empty set's words, a table of empty sets, and the words' bounds
-pub value-zero : value (0 ∷ 0 ∷ 0 ∷ 0 ∷ []) ≡ 0
-unfolding packed
-value-zero = refl
-
+-- a table of empty sets
 pub table-zero : (n : ℕ) (x : List ℕ) → value x ≡ 0 → (i : ℕ) → setIn (replicate n x) i ≡ 0
 unfolding packed
 table-zero zero x z i = refl
 table-zero (suc n) x z zero = z
 table-zero (suc n) x z (suc i) = table-zero n x z i
-
-pub four-zero : FourWords (0 ∷ 0 ∷ 0 ∷ 0 ∷ [])
-four-zero = record { four = refl; below = λ i. omega (arith, words-zero i) }
 
 module _ (on : Setting) (s : List ℕ) (cut budget : ℕ) where
   ends : endOf on s budget (knowledge (entryAt s) (startHeads s cut)) ≡ asEnded (entryAt s) (outcomeOf on s cut budget)

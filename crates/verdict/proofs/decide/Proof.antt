@@ -3,12 +3,13 @@ use mathlib.Core.Path.{refl, ap, _∙_}
 use Prim.Native.Nat.{ℕ, _<_}
 use native.Mathlib.Nat.{le-of-eq, lt-of-le-of-lt, lt-of-lt-of-le}
 use denote.Ref.{now}
+use Rattle.bitset.proofs.Laws.Words.{words-zero, value-zero}
 use Rattle.dag.specs.Sheet.{goalOf}
 use Rattle.dag.proofs.Laws.Good.{good}
 use Rattle.knowledge.specs.Inner.Lines.{setIn}
 use mathlib.Core.List.{[], _∷_}
 use native.Mathlib.Omega.{arith}
-use Rattle.verdict.proofs.Laws.Decide.{value-zero, table-zero, four-zero}
+use Rattle.verdict.proofs.Laws.Decide.{table-zero}
 use borrow.Author.Needs.{needs}
 use Rattle.verdict.proofs.decide.Statement.{statement}
 use Rattle.verdict.proofs.decide.Tie as tie
@@ -40,7 +41,7 @@ state-requires c κs = let t = c .before .before .before .before .before .before
       within = s .pre .1;
       key = e .right .key;
       rep = e .right .rep;
-      sizes = record { remainders = e .sized .set; used = refl; empty = four-zero };
+      sizes = record { remainders = e .sized .set; used = refl; empty = words-zero };
       size = refl;
       fresh = e .right .set;
       unused = table-zero 256 (0 ∷ 0 ∷ 0 ∷ 0 ∷ []) value-zero;
