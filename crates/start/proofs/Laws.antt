@@ -2,3 +2,4 @@ pub mod Lists
 pub mod Heads
 pub mod Hearing
 pub mod Repeats
+pub mod Filled

@@ -2,7 +2,7 @@
 ghost use mathlib.Core.Path.{_≡_};
 ghost use mathlib.Core.Bool.{_&&_};
 ghost use mathlib.Core.List.{[], _∷_, _++_, map};
-ghost use Prim.Native.Nat.{_+_, _%_, _≤_, _<_};
+ghost use Prim.Native.Nat.{_+_, _*_, _/_, _%_, _≤_, _<_};
 ghost use lib.Dec.{eqb};
 ghost use lib.ListN.{length, getD, take};
 ghost use Rattle.bitset.specs.Inner.{FourWords};
@@ -14,7 +14,7 @@ ghost use Rattle.knowledge.specs.Inner.State.{Holds};
 ghost use Rattle.knowledge.specs.Inner.Lines.{Kept, headIn};
 ghost use Rattle.start.specs.Start.{publicHeads, startHeads};
 ghost use Rattle.start.specs.Inner.State.{publicKey, Keyed, Listing, Started};
-ghost use Rattle.start.specs.Inner.Hearing.{KeptNew, Dropped, fourFrom, Hearable, Hears, Hearing, HeldAll};
+ghost use Rattle.start.specs.Inner.Hearing.{KeptNew, Dropped, FilledUp, fourFrom, Hearable, Hears, Hearing, HeldAll};
 use dag::sheet;
 use knowledge::Knowledge;
 use knowledge::lines;
@@ -111,6 +111,20 @@ fn drop_repeats(list: &mut [u8; 512], len: usize) -> usize
     end
 }
 
+// Fills the list up to a multiple of four with the last of its first len heads, which teaches nothing more. Hands back the multiple.
+fn fill_up(list: &mut [u8; 512], len: usize) -> usize
+    requires { ⌜ (length (now list) ≡ 512) × (len ≤ 512) ⌝ }
+    ensures { λ r. ⌜ (r ≡ (len + 3) / 4 * 4) × FilledUp len r (now (list .entry)) (now (list .exit)) ⌝ }
+{
+    let end = (len + 3) / 4 * 4;
+    let mut k = len;
+    while k < end {
+        list[k] = list[len - 1];
+        k += 1;
+    }
+    end
+}
+
 // Hears one head: its line is taken off the others, and what was left of it goes into the state.
 fn hear_one(
     state: Knowledge,
@@ -148,7 +162,7 @@ fn hear_four(
 }
 
 // Hears the first len heads of a list, in order, from nothing, where len is a multiple of four.
-fn hear_fours(
+fn hear(
     list: &[u8; 512],
     len: usize,
     remainders: &mut [[u64; 4]; 256],
@@ -164,28 +178,6 @@ fn hear_fours(
     while k < len {
         state = hear_four(state, list, k, remainders, used, columns, empty);
         k += 4;
-    }
-    state
-}
-
-// Hears the first len heads of a list, in order, from nothing.
-fn hear(
-    list: &[u8; 512],
-    len: usize,
-    remainders: &mut [[u64; 4]; 256],
-    used: &mut [[u64; 4]; 256],
-    columns: &mut [[u64; 4]; 256],
-    empty: &mut [u64; 4],
-) -> Knowledge
-    requires { ⌜ Hearing (now list) len (now remainders) (now used) (now columns) (now empty) ⌝ }
-    ensures { λ r. ⌜ HeldAll (now (list .entry)) len (now (remainders .entry)) (now (used .entry)) (now (columns .entry)) (now (empty .entry)) r (now (remainders .exit)) (now (used .exit)) (now (columns .exit)) (now (empty .exit)) ⌝ }
-{
-    let fours = len - len % 4;
-    let mut state = hear_fours(list, fours, remainders, used, columns, empty);
-    let mut k = fours;
-    while k < len {
-        state = hear_one(state, list[k], remainders, used, columns, empty);
-        k += 1;
     }
     state
 }
@@ -211,5 +203,6 @@ pub fn state(
     let own = public_heads(s, keys, reps, &mut list, 0);
     let len = trace_heads(s, cut, reps, &mut list, own);
     let new = drop_repeats(&mut list, len);
-    hear(&list, new, remainders, used, columns, empty)
+    let end = fill_up(&mut list, new);
+    hear(&list, end, remainders, used, columns, empty)
 }

@@ -34,7 +34,7 @@ stands-more x y [] = or-false (eqb y x)
 stands-more x y (e ∷ es) = ap (λ (b : Bool). eqb e x || b) (stands-more x y es) ∙ sym (or-assoc (eqb e x) (stands x es) (eqb y x))
 
 -- what stands at a place stands in the list
-stands-at : (es : List ℕ) (i : ℕ) → i < length es → stands (getD es i 0) es ≡ true
+pub stands-at : (es : List ℕ) (i : ℕ) → i < length es → stands (getD es i 0) es ≡ true
 unfolding stands
 stands-at [] i h = absurd (omega arith)
 stands-at (e ∷ es) zero h = ap (λ (b : Bool). b || stands e es) (eq-eqb e e refl)
@@ -86,7 +86,7 @@ firsts-from list (suc n) x m =
     last false q = (n, omega arith, List·Memᴰ·eq-of-singleton q)
 
 -- the known set is what stands in the list learnt
-known-stands : (f : ℕ → ℕ) (k : Knowledge) (es : List ℕ) (x : ℕ) → member (learnAll f k es .known) x ≡ (member (k .known) x || stands x es)
+pub known-stands : (f : ℕ → ℕ) (k : Knowledge) (es : List ℕ) (x : ℕ) → member (learnAll f k es .known) x ≡ (member (k .known) x || stands x es)
 unfolding learnAll stands
 known-stands f k [] x = sym (or-false (member (k .known) x))
 known-stands f k (e ∷ es) x =

@@ -1,4 +1,4 @@
--- `start::state` meets its contract: the public atoms are listed, then the messages, and each is heard once in that order.
+-- `start::state` meets its contract: the public atoms are listed, then the messages; without repeats and filled up to a multiple of four, they are heard in that order.
 use mathlib.Core.Path.{_≡_, ap, _∙_, subst}
 use mathlib.Core.Bool.{Bool, true}
 use mathlib.Core.List.{List, []}
@@ -18,6 +18,7 @@ use Rattle.knowledge.proofs.Laws.Lines.{kept-begun}
 use Rattle.start.specs.Start.{startHeads}
 use Rattle.start.proofs.Laws.Heads.{start-listed, heads-live}
 use Rattle.start.proofs.Laws.Repeats.{dropped-taught, dropped-live}
+use Rattle.start.proofs.Laws.Filled.{filled-taught, filled-live}
 use borrow.Author.Needs.{needs}
 use Rattle.start.proofs.state.Statement.{statement}
 use Rattle.start.proofs.state.Tie as tie
@@ -46,6 +47,26 @@ taught : (c : tie.After-trace-heads) → let s = c .before .before .before .befo
     learnAll (setAt (entryAt (now (s .args .s)))) nothing (take (c .trace-heads .result) (c .trace-heads .last .1 .1 .1 .0)) ≡ knowledge (entryAt (now (s .args .s))) (startHeads (now (s .args .s)) (s .args .cut))
 unfolding knowledge
 taught c = let s = c .before .before .before .before .before .before .before .before .before .before in ap (learnAll (setAt (entryAt (now (s .args .s)))) nothing) (listed c)
+
+-- what is left of it without repeats, filled up, is live and teaches the same
+new-few : (c : tie.After-drop-repeats) → c .drop-repeats .result ≤ 512
+new-few c = omega (arith, c .drop-repeats .ensures .few, len-few (c .before .before))
+
+end-few : (c : tie.After-fill-up) → let n = c .before .before .drop-repeats .result in
+    let end = c .fill-up .result in (n ≤ end) × (end ≤ 512) × (n < end → 0 < n)
+end-few c = let few = new-few (c .before .before) in
+    let r = c .fill-up .ensures .0 in (omega (arith, r), omega (arith, r, few), λ l. omega (arith, r, l))
+
+end-live : (c : tie.After-fill-up) → let s = c .before .before .before .before .before .before .before .before .before .before .before .before .before .before in
+    (k : ℕ) → k < c .fill-up .result → headIn (now (s .args .reps)) (countOf (now (s .args .s))) (getD (c .fill-up .last .0) k 0) ≡ true
+end-live c = let d = c .before .before in let t = d .before .before in let s = c .before .before .before .before .before .before .before .before .before .before .before .before .before .before in let here = headIn (now (s .args .reps)) (countOf (now (s .args .s))) in let e = end-few c in
+    filled-live (e .0) (e .1) (e .2) (c .fill-up .ensures .1) here (dropped-live (len-few t) (d .drop-repeats .ensures) here (live t))
+
+end-taught : (c : tie.After-fill-up) → let s = c .before .before .before .before .before .before .before .before .before .before .before .before .before .before in
+    learnAll (setAt (entryAt (now (s .args .s)))) nothing (take (c .fill-up .result) (c .fill-up .last .0)) ≡ knowledge (entryAt (now (s .args .s))) (startHeads (now (s .args .s)) (s .args .cut))
+end-taught c = let d = c .before .before in let t = d .before .before in let s = c .before .before .before .before .before .before .before .before .before .before .before .before .before .before in let f = setAt (entryAt (now (s .args .s))) in let e = end-few c in
+    filled-taught (e .0) (e .1) (e .2) (c .fill-up .ensures .1) (d .drop-repeats .ensures .room) f
+    ∙ dropped-taught (len-few t) (d .drop-repeats .ensures) (t .trace-heads .ensures .1 .1) f ∙ taught t
 
 -- the tables before the first head
 kept : (c : tie.After-begin) → let s = c .before .before .before .before .before .before in
@@ -80,22 +101,26 @@ trace-heads-requires c κs = let p = c .before in let s = c .before .before .bef
 drop-repeats-requires : tie.Need-drop-repeats-requires
 drop-repeats-requires c κs = (c .before .trace-heads .ensures .1 .1, len-few (c .before))
 
+fill-up-requires : tie.Need-fill-up-requires
+fill-up-requires c κs = (c .before .drop-repeats .ensures .room, new-few (c .before))
+
 hear-requires : tie.Need-hear-requires
-hear-requires c κs = let d = c .before .before .before .before .before in let t = c .before .before .before .before .before .before .before in let s = c .before .before .before .before .before .before .before .before .before .before .before .before .before .before .before .before .before in
-    record {
-      room = d .drop-repeats .ensures .room;
-      within = omega (arith, d .drop-repeats .ensures .few, len-few t);
-      live = headIn (now (s .args .reps)) (countOf (now (s .args .s)));
-      sets = setAt (entryAt (now (s .args .s)));
-      lives = dropped-live (len-few t) (d .drop-repeats .ensures) (headIn (now (s .args .reps)) (countOf (now (s .args .s)))) (live t);
-      kept = kept (c .before .before .before .before .before .before .before .before .before .before .before);
-    }
+hear-requires c κs = let u = c .before .before .before .before .before in let s = c .before .before .before .before .before .before .before .before .before .before .before .before .before .before .before .before .before .before .before in (
+  record {
+    room = u .fill-up .ensures .1 .room;
+    within = end-few u .1;
+    live = headIn (now (s .args .reps)) (countOf (now (s .args .s)));
+    sets = setAt (entryAt (now (s .args .s)));
+    lives = end-live u;
+    kept = kept (c .before .before .before .before .before .before .before .before .before .before .before .before .before);
+  },
+  omega (arith, u .fill-up .ensures .0),
+)
 
 returns : tie.Need-returns
-returns c = let d = c .before .before .before .before .before .before in let t = c .before .before .before .before .before .before .before .before in let s = c .before .before .before .before .before .before .before .before .before .before .before .before .before .before .before .before .before .before in let e = entryAt (now (s .args .s)) in
-    let h = c .hear .ensures (headIn (now (s .args .reps)) (countOf (now (s .args .s)))) (setAt e) (dropped-live (len-few t) (d .drop-repeats .ensures) (headIn (now (s .args .reps)) (countOf (now (s .args .s)))) (live t)) (kept (c .before .before .before .before .before .before .before .before .before .before .before .before)) in
-    let same = dropped-taught (len-few t) (d .drop-repeats .ensures) (t .trace-heads .ensures .1 .1) (setAt e) ∙ taught t in
-    (holds-same same (h .state), kept-rows same (h .kept))
+returns c = let u = c .before .before .before .before .before .before in let s = c .before .before .before .before .before .before .before .before .before .before .before .before .before .before .before .before .before .before .before .before in
+    let h = c .hear .ensures (headIn (now (s .args .reps)) (countOf (now (s .args .s)))) (setAt (entryAt (now (s .args .s)))) (end-live u) (kept (c .before .before .before .before .before .before .before .before .before .before .before .before .before .before)) in
+    (holds-same (end-taught u) (h .state), kept-rows (end-taught u) (h .kept))
 
 pub state-spec : {M : Type 1} → statement M
 state-spec =
@@ -107,5 +132,6 @@ state-spec =
     public-heads-requires
     trace-heads-requires
     drop-repeats-requires
+    fill-up-requires
     hear-requires
     returns)

@@ -1,8 +1,8 @@
 -- Heads heard one by one.
 -- Defined: `stands`, does a number stand in a list; `firsts`, the first numbers of a list without repeats; `KeptNew`, one place of a list kept or dropped; `Dropped`, the
--- repeats among its first places dropped; `Held`, what holds after some heads; `Hearable`, what hearing more of them needs, and `Hears`, what it does; `fourFrom`, four
+-- repeats among its first places dropped; `FilledUp`, its first places filled up with the last of them; `Held`, what holds after some heads; `Hearable`, what hearing more of them needs, and `Hears`, what it does; `fourFrom`, four
 -- heads of a list; `Hearing` and `HeldAll`, need and promise for the first heads of a list, from nothing.
-use Prim.Native.Nat.{ℕ, zero, suc, _+_, _≤_, _<_}
+use Prim.Native.Nat.{ℕ, zero, suc, _+_, _-_, _≤_, _<_}
 use mathlib.Core.Path.{_≡_}
 use mathlib.Core.Bool.{Bool, true, false, _||_, cond}
 use mathlib.Core.List.{List, [], _∷_, _++_, List·Memᴰ}
@@ -37,6 +37,13 @@ pub record Dropped (len : ℕ) (list list′ : List ℕ) (r : ℕ) : Type 0 wher
   pub few : r ≤ len
   pub heads : take r list′ ≡ firsts list len
   pub later : (k : ℕ) → r ≤ k → getD list′ k 0 ≡ getD list k 0
+
+-- the places from len to `end` were filled with the last of the first len, and every other place is as it was
+pub record FilledUp (len end : ℕ) (list list′ : List ℕ) : Type 0 where
+  pub room : length list′ ≡ 512
+  pub heads : (k : ℕ) → k < len → getD list′ k 0 ≡ getD list k 0
+  pub repeats : (k : ℕ) → len ≤ k → k < end → getD list′ k 0 ≡ getD list (len - 1) 0
+  pub later : (k : ℕ) → end ≤ k → getD list′ k 0 ≡ getD list k 0
 
 -- after the heads `es`, with sets f, the state is what is known of them, and the tables are kept for the live entries
 pub record Held (live : ℕ → Bool) (f : ℕ → ℕ) (es : List ℕ) (x : Knowledge) (rs us cs : List (List ℕ)) (empty : List ℕ) : Type 0 where
