@@ -67,7 +67,7 @@ Missed p ws q = (k : ℕ) → k / 64 < q → member (value ws) k ≡ true → p 
 pub missed-none : (p : ℕ → Bool) (ws : List ℕ) → Missed p ws 0
 missed-none p ws k l = absurd (omega arith)
 
-module _ {p : ℕ → Bool} (ws : List ℕ) (below : Below 64 ws) (q : ℕ) (few : q < 4) (before : Missed p ws q) {r : ℕ} (f : FoundIn p (getD ws q 0) (q * 64) r) where
+module _ {p : ℕ → Bool} (ws : List ℕ) (below : Below 64 ws) (q : ℕ) (few : q < 4) (before : Missed p ws q) (r : ℕ) (f : FoundIn p (getD ws q 0) (q * 64) r) where
   -- and so do those before what word q yields
   missed-here : (k : ℕ) → k < r → k / 64 ≤ q → member (value ws) k ≡ true → p k ≡ false
   missed-here k l b m = by-cases (decLt (k / 64) q) (λ s. before k s m) (λ s. here (omega arith))

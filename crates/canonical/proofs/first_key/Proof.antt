@@ -24,22 +24,22 @@ words c i = let f : Fits w64 (getD (c .args .t2) i 0) = search needs in f .fits
 -- the words so far have none
 missed1 : (c : tie.Else1) → let s = c .before .before in Missed (test s) (s .args .t2) 1
 missed1 c = let s = c .before .before in
-    missed-more (s .args .t2) (words s) 0 (omega arith) (missed-none (test s) (s .args .t2)) (c .before .key-in-word .ensures) (omega (arith, c .if1 .left))
+    missed-more (s .args .t2) (words s) 0 (omega arith) (missed-none (test s) (s .args .t2)) (c .before .key-in-word .result) (c .before .key-in-word .ensures) (omega (arith, c .if1 .left))
 
 missed2 : (c : tie.Else2) → let s = c .before .before .before .before in Missed (test s) (s .args .t2) 2
 missed2 c = let b = c .before .before in
     let s = b .before .before in
-    missed-more (s .args .t2) (words s) 1 (omega arith) (missed1 b) (c .before .key-in-word2 .ensures) (omega (arith, c .if2 .left))
+    missed-more (s .args .t2) (words s) 1 (omega arith) (missed1 b) (c .before .key-in-word2 .result) (c .before .key-in-word2 .ensures) (omega (arith, c .if2 .left))
 
 missed3 : (c : tie.Else3) → let s = c .before .before .before .before .before .before in Missed (test s) (s .args .t2) 3
 missed3 c = let b = c .before .before in
     let s = b .before .before .before .before in
-    missed-more (s .args .t2) (words s) 2 (omega arith) (missed2 b) (c .before .key-in-word3 .ensures) (omega (arith, c .if3 .left))
+    missed-more (s .args .t2) (words s) 2 (omega arith) (missed2 b) (c .before .key-in-word3 .result) (c .before .key-in-word3 .ensures) (omega (arith, c .if3 .left))
 
 missed4 : (c : tie.Else4) → let s = c .before .before .before .before .before .before .before .before in Missed (test s) (s .args .t2) 4
 missed4 c = let b = c .before .before in
     let s = b .before .before .before .before .before .before in
-    missed-more (s .args .t2) (words s) 3 (omega arith) (missed3 b) (c .before .key-in-word4 .ensures) (omega (arith, c .if4 .left))
+    missed-more (s .args .t2) (words s) 3 (omega arith) (missed3 b) (c .before .key-in-word4 .result) (c .before .key-in-word4 .ensures) (omega (arith, c .if4 .left))
 
 array-read-key-in-word : tie.Need-array-read-key-in-word
 array-read-key-in-word c = search needs
@@ -49,7 +49,7 @@ key-in-word-requires c κs = search needs
 
 returns : tie.Need-returns
 returns c = let s = c .before .before in
-    found-least (s .args .t2) (words s) 0 (omega arith) (missed-none (test s) (s .args .t2)) (c .before .key-in-word .ensures) (s .pre .1) (c .if1 .taken)
+    found-least (s .args .t2) (words s) 0 (omega arith) (missed-none (test s) (s .args .t2)) (c .before .key-in-word .result) (c .before .key-in-word .ensures) (s .pre .1) (c .if1 .taken)
 
 array-read-key-in-word-2 : tie.Need-array-read-key-in-word-2
 array-read-key-in-word-2 c = search needs
@@ -60,7 +60,7 @@ key-in-word-requires-2 c κs = search needs
 returns-2 : tie.Need-returns-2
 returns-2 c = let b = c .before .before in
     let s = b .before .before in
-    found-least (s .args .t2) (words s) 1 (omega arith) (missed1 b) (c .before .key-in-word2 .ensures) (s .pre .1) (c .if2 .taken)
+    found-least (s .args .t2) (words s) 1 (omega arith) (missed1 b) (c .before .key-in-word2 .result) (c .before .key-in-word2 .ensures) (s .pre .1) (c .if2 .taken)
 
 array-read-key-in-word-3 : tie.Need-array-read-key-in-word-3
 array-read-key-in-word-3 c = search needs
@@ -71,7 +71,7 @@ key-in-word-requires-3 c κs = search needs
 returns-3 : tie.Need-returns-3
 returns-3 c = let b = c .before .before in
     let s = b .before .before .before .before in
-    found-least (s .args .t2) (words s) 2 (omega arith) (missed2 b) (c .before .key-in-word3 .ensures) (s .pre .1) (c .if3 .taken)
+    found-least (s .args .t2) (words s) 2 (omega arith) (missed2 b) (c .before .key-in-word3 .result) (c .before .key-in-word3 .ensures) (s .pre .1) (c .if3 .taken)
 
 array-read-key-in-word-4 : tie.Need-array-read-key-in-word-4
 array-read-key-in-word-4 c = search needs
@@ -82,7 +82,7 @@ key-in-word-requires-4 c κs = search needs
 returns-4 : tie.Need-returns-4
 returns-4 c = let b = c .before .before in
     let s = b .before .before .before .before .before .before in
-    found-least (s .args .t2) (words s) 3 (omega arith) (missed3 b) (c .before .key-in-word4 .ensures) (s .pre .1) (c .if4 .taken)
+    found-least (s .args .t2) (words s) 3 (omega arith) (missed3 b) (c .before .key-in-word4 .result) (c .before .key-in-word4 .ensures) (s .pre .1) (c .if4 .taken)
 
 returns-5 : tie.Need-returns-5
 returns-5 c = let s = c .before .before .before .before .before .before .before .before in
