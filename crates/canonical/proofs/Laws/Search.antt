@@ -42,7 +42,7 @@ tried-start p base {word} h = record { rest = left-start word h; failed = λ t m
 
 module _ {p : ℕ → Bool} {word base left : ℕ} (h : Tried p word base left) where
   pub tried-end : left ≡ 0 → FoundIn p word base 256
-  tried-end z = record { own = λ l. absurd (omega arith); none = λ t m l. h .failed t m (ap (λ (x : ℕ). member x t) z ∙ member-empty t) }
+  tried-end z = record { own = λ f. absurd (f refl); none = λ t m l. h .failed t m (ap (λ (x : ℕ). member x t) z ∙ member-empty t) }
 
   -- the lowest that is left
   module _ (some : ¬ (left ≡ 0)) {t : ℕ} (q : t ≡ trailingZeros 64 left) where
@@ -81,7 +81,7 @@ module _ {p : ℕ → Bool} (ws : List ℕ) (below : Below 64 ws) (q : ℕ) (few
   missed-more g k l m = missed-here k (omega arith) (omega arith) m
 
   pub found-least : {n : ℕ} → Candidates p n (value ws) → r < 256 → r ≡ least p n
-  found-least {n} c l = go (f .own l)
+  found-least {n} c l = go (f .own (λ e. absurd (omega arith)))
     where
       go : (t : ℕ) × (r ≡ q * 64 + t) × (member (getD ws q 0) t ≡ true) × (p r ≡ true) → r ≡ least p n
       go (t, e, m, hit) = search-found p n r inside none hit

@@ -46,5 +46,5 @@ pub record Candidates (p : ℕ → Bool) (n s : ℕ) : Type 0 where
 
 -- r is the first entry that passes the test among a word's members, which are entries from base on; 256 where none does
 pub record FoundIn (p : ℕ → Bool) (word base r : ℕ) : Type 0 where
-  pub own : r < 256 → (t : ℕ) × (r ≡ base + t) × (member word t ≡ true) × (p r ≡ true)
+  pub own : ¬ (r ≡ 256) → (t : ℕ) × (r ≡ base + t) × (member word t ≡ true) × (p r ≡ true)
   pub none : (t : ℕ) → member word t ≡ true → base + t < r → p (base + t) ≡ false
