@@ -1,12 +1,13 @@
 // For each entry of a good sheet: its key, its set of standard entries and its representative, in three tables that the caller lends.
 ghost use mathlib.Core.Path.{_≡_};
 ghost use mathlib.Core.Bool.{_||_};
-ghost use mathlib.Core.List.{List·Memᴰ};
+ghost use mathlib.Core.List.{List, List·Memᴰ};
 ghost use Prim.Native.Nat.{ℕ, _+_, _*_, _≤_, _<_, _^_};
 ghost use lib.Dec.{eqb};
 ghost use lib.ListN.{length};
 ghost use Rattle.bitset.specs.Set.{single, leading};
 ghost use Rattle.bitset.specs.Words.{value};
+ghost use Rattle.bitset.specs.Inner.{FourWords};
 ghost use Rattle.deduction.specs.Entry.{Entry, parts};
 ghost use Rattle.deduction.specs.Standard.{least, xorAll, setAt};
 ghost use Rattle.dag.specs.Sheet.{countOf, listed};
@@ -18,11 +19,12 @@ ghost use Rattle.canonical.specs.Inner.Buckets.{keyBucket, setBucket, bu
 use dag::record;
 use dag::sheet;
 
-// One line of the tables.
+// One line of the tables, and the bucket of its entry.
 struct Line {
     key: u64,
     set: [u64; 4],
     rep: u8,
+    bucket: usize,
 }
 
 // The key of a pair or an encryption of either sort whose parts have these representatives.
@@ -181,8 +183,8 @@ fn first_set(sets: &[[u64; 4]; 256], bucket: [u64; 4], n: u16, set: [u64; 4]) ->
 }
 
 // The representative of entry n, which has no key and this set. A set of one member is that entry's own; any other is looked for in its bucket.
-fn rep_of_set(sets: &[[u64; 4]; 256], buckets: &[[u64; 4]; 256], n: u8, set: [u64; 4]) -> u8
-    requires { ⌜ ((Alone (value set) → ⊥) → Candidates (λ j. eqb (setIn (now sets) j) (value set)) n (setIn (now buckets) (setBucket set))) ⌝ }
+fn rep_of_set(sets: &[[u64; 4]; 256], bucket: [u64; 4], n: u8, set: [u64; 4]) -> u8
+    requires { ⌜ ((Alone (value set) → ⊥) → Candidates (λ j. eqb (setIn (now sets) j) (value set)) n (value bucket)) ⌝ }
     ensures alone { λ r. ⌜ (Alone (value set) → r ≡ leading (value set)) ⌝ }
     ensures found { λ r. ⌜ ((Alone (value set) → ⊥) → r ≡ least (λ j. eqb (setIn (now (sets .entry)) j) (value set)) n) ⌝ }
 {
@@ -190,8 +192,7 @@ fn rep_of_set(sets: &[[u64; 4]; 256], buckets: &[[u64; 4]; 256], n: u8, set: [u6
     if bitset::equal(set, bitset::singleton(e)) {
         return e;
     }
-    let at = set_bucket(set);
-    first_set(sets, buckets[at], n as u16, set) as u8
+    first_set(sets, bucket, n as u16, set) as u8
 }
 
 // The exclusive or of the sets of a sum's items; the empty set for a record without items, as zero's.
@@ -270,37 +271,38 @@ fn line_of(
     requires { ⌜ i < countOf (now s) ⌝ }
     requires { ⌜ Right (entryAt (now s)) i (now keys) (now sets) (now reps) ⌝ }
     requires { ⌜ Bucketed (entryAt (now s)) i (now buckets) ⌝ }
-    ensures { λ r. ⌜ RightLine (entryAt (now (s .entry))) i (r .key) (r .set) (r .rep) ⌝ }
+    ensures line { λ r. ⌜ RightLine (entryAt (now (s .entry))) i (r .key) (r .set) (r .rep) ⌝ }
+    ensures bucket { λ r. ⌜ r .bucket ≡ bucketOf (r .key) (r .set) ⌝ }
 {
     let r = sheet::record(s, i as u16);
     let key = key_of(r, reps);
     if key == 0 {
         let set = sum_of_items(r, sets);
-        let rep = rep_of_set(sets, buckets, i, set);
-        return Line { key, set, rep };
+        let bucket = set_bucket(set);
+        let rep = rep_of_set(sets, buckets[bucket], i, set);
+        return Line {
+            key,
+            set,
+            rep,
+            bucket,
+        };
     }
-    let at = key_bucket(key);
-    let rep = first_key(keys, buckets[at], i as u16, key) as u8;
+    let bucket = key_bucket(key);
+    let rep = first_key(keys, buckets[bucket], i as u16, key) as u8;
     let set = standard_set(sets, i, rep);
-    Line { key, set, rep }
-}
-
-// The bucket of an entry with this key and this set.
-fn bucket_of(key: u64, set: [u64; 4]) -> usize
-    ensures { λ r. ⌜ r ≡ bucketOf key set ⌝ }
-{
-    if key == 0 {
-        return set_bucket(set);
+    Line {
+        key,
+        set,
+        rep,
+        bucket,
     }
-    key_bucket(key)
 }
 
-// Entry i, with this key and this set, joins its bucket.
-fn join(buckets: &mut [[u64; 4]; 256], key: u64, set: [u64; 4], i: u8)
-    requires { ⌜ length (now buckets) ≡ 256 ⌝ }
-    ensures { λ _. ⌜ ((e : ℕ → Entry) → Bucketed e i (now (buckets .entry)) → key ≡ keyAt e i → value set ≡ setAt e i → Bucketed e (i + 1) (now (buckets .exit))) ⌝ }
+// Entry i joins a bucket.
+fn join(buckets: &mut [[u64; 4]; 256], at: usize, i: u8)
+    requires { ⌜ (length (now buckets) ≡ 256) × (at < 256) ⌝ }
+    ensures { λ _. ⌜ ((e : ℕ → Entry) (key : ℕ) (ws : List ℕ) → Bucketed e i (now (buckets .entry)) → FourWords ws → key ≡ keyAt e i → value ws ≡ setAt e i → at ≡ bucketOf key ws → Bucketed e (i + 1) (now (buckets .exit))) ⌝ }
 {
-    let at = bucket_of(key, set);
     bitset::put(&mut buckets[at], i);
 }
 
@@ -328,7 +330,7 @@ fn fill(
         keys[at] = line.key;
         sets[at] = set;
         reps[at] = line.rep;
-        join(buckets, line.key, set, i as u8);
+        join(buckets, line.bucket, i as u8);
         i += 1;
     }
 }

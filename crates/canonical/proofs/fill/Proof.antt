@@ -4,6 +4,11 @@ use Prim.Native.Nat.{ℕ, _-_, _≤_, _<_}
 use native.Mathlib.Omega.{arith}
 use borrow.Author.Needs.{needs}
 use denote.Ref.{now}
+use lib.ListN.{getD}
+use mir.Syntax.{w64}
+use mir.Val.{Fits}
+use Rattle.bitset.specs.Inner.{FourWords}
+use Rattle.canonical.proofs.Laws.Buckets.{bucket-below}
 use Rattle.dag.specs.Sheet.{countOf}
 use Rattle.dag.specs.Record.{entryAt}
 use Rattle.dag.proofs.Laws.Good.{good}
@@ -25,6 +30,10 @@ abbrev μ-loop : tie.MeasureT-loop
 below : (c : tie.In-loop Inv-loop μ-loop) → c .before .loop .i < 256
 below c = let s = c .before .before .before .before in
     omega (arith, good (now (s .args .s)) (s .pre .0) .few)
+
+-- a line's set has four words
+words : (c : tie.After-line-of Inv-loop μ-loop) → FourWords (c .line-of .result .set)
+words c = record { four = search needs; below = λ i. let f : Fits w64 (getD (c .line-of .result .set) i 0) = search needs in f .fits }
 
 done : (c : tie.After-loop Inv-loop μ-loop) → c .before .loop .i ≡ countOf (now (c .before .before .before .before .args .s))
 done c = omega arith
@@ -65,7 +74,7 @@ cast-join : tie.Need-cast-join Inv-loop μ-loop
 cast-join c = omega (arith, below (c .before .before .before .before .before .before .before))
 
 join-requires : tie.Need-join-requires Inv-loop μ-loop
-join-requires c κs = c .before .before .before .before .before .before .before .before .loop .inv .3 .size
+join-requires c κs = let m = c .before .before in (m .before .before .before .before .before .before .loop .inv .3 .size, omega (arith, m .line-of .ensures .1, bucket-below (m .line-of .result .key) (m .line-of .result .set)))
 
 add-i : tie.Need-add-i Inv-loop μ-loop
 add-i c = omega (arith, below (c .before .before .before .before .before .before .before .before))
@@ -78,11 +87,11 @@ loop-again c = let m = c .before .before .before in
     let b = m .before .before .before .before .before in
     let l = b .before .loop in
     let a = b .before .before .before .before .args in
-    let line = m .line-of .ensures in (
+    let line = m .line-of .ensures .0 in (
       omega arith,
       l .inv .1,
       filled-more (entryAt (now (a .s))) (now (a .keys)) (now (a .sets)) (now (a .reps)) (l .inv .2) (below b) line,
-      c .join .ensures (entryAt (now (a .s))) (l .inv .3) (line .key) (line .set),
+      c .join .ensures (entryAt (now (a .s))) (m .line-of .result .key) (m .line-of .result .set) (l .inv .3) (words m) (line .key) (line .set) (m .line-of .ensures .1),
     )
 
 returns : tie.Need-returns Inv-loop μ-loop

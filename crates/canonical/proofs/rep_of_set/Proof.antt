@@ -1,6 +1,5 @@
 -- `canonical::rep_of_set` meets its contract: the one member, or what the search in the set's bucket finds.
-use mathlib.Core.Path.{sym, _∙_, subst}
-use Prim.Native.Nat.{ℕ}
+use mathlib.Core.Path.{sym, _∙_}
 use native.Mathlib.Omega.{arith}
 use lib.Dec.{eqb}
 use borrow.Author.Needs.{needs}
@@ -8,7 +7,7 @@ use denote.Ref.{now}
 use Rattle.bitset.specs.Words.{value}
 use Rattle.deduction.proofs.Standard.Least.{least-le}
 use Rattle.canonical.specs.Inner.Tables.{setIn}
-use Rattle.canonical.specs.Inner.Buckets.{Alone, Candidates}
+use Rattle.canonical.specs.Inner.Buckets.{Alone}
 use Rattle.canonical.proofs.Laws.Buckets.{alone-yes, alone-no}
 use Rattle.canonical.proofs.rep_of_set.Statement.{statement}
 use Rattle.canonical.proofs.rep_of_set.Tie as tie
@@ -38,27 +37,15 @@ equal-requires c κs = search needs
 returns : tie.Need-returns
 returns c = (λ a. c .before .before .before .leading .ensures, λ f. absurd (f (alone c)))
 
-set-bucket-requires : tie.Need-set-bucket-requires
-set-bucket-requires c κs = search needs
-
-mul-first-set : tie.Need-mul-first-set
-mul-first-set c = search needs
-
-element-copy-out-first-set : tie.Need-element-copy-out-first-set
-element-copy-out-first-set c = search needs
-
 first-set-requires : tie.Need-first-set-requires
-first-set-requires c κs = let b = c .before in
-    let s = b .before .before .before .before .before in
-    let a = s .args in
-    (search needs, subst (λ (x : ℕ). Candidates (λ j. eqb (setIn (now (a .sets)) j) (value (a .set))) (a .n) (setIn (now (a .buckets)) x)) (sym (b .set-bucket .ensures)) (s .pre (others (b .before))))
+first-set-requires c κs = (search needs, c .before .before .before .before .pre (others c))
 
 cast-result : tie.Need-cast-result
-cast-result c = let a = c .before .before .before .before .before .before .before .args in
+cast-result c = let a = c .before .before .before .before .before .args in
     omega (arith, c .first-set .ensures, least-le (λ j. eqb (setIn (now (a .sets)) j) (value (a .set))) (a .n))
 
 returns-2 : tie.Need-returns-2
-returns-2 c = (λ a. absurd (others (c .before .before .before) a), λ f. c .first-set .ensures)
+returns-2 c = (λ a. absurd (others (c .before) a), λ f. c .first-set .ensures)
 
 pub rep-of-set-spec : {M : Type 1} → statement M
 rep-of-set-spec =
@@ -68,9 +55,6 @@ rep-of-set-spec =
     singleton-requires
     equal-requires
     returns
-    set-bucket-requires
-    mul-first-set
-    element-copy-out-first-set
     first-set-requires
     cast-result
     returns-2)
