@@ -128,7 +128,8 @@ pub fn sweep(
     }
 }
 
-// Line i joins each column in a set that it isn't in. Written out once more, so that line i as a set stays in registers.
+// Changes each column in a set by line i alone, which then joins a column that it isn't in. It is `flip` once more: called from one place each, both are made
+// part of their callers, and the lines stay in registers.
 fn join(columns: &mut [[u64; 4]; 256], set: [u64; 4], i: u8)
     requires { ⌜ length (now columns) ≡ 256 ⌝ }
     ensures { λ _. ⌜ Flipped (single i) (value set) (now (columns .entry)) (now (columns .exit)) ⌝ }

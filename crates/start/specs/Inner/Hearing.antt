@@ -1,7 +1,7 @@
 -- Heads heard one by one.
 -- Defined: `stands`, does a number stand in a list; `firsts`, the first numbers of a list without repeats; `KeptNew`, one place of a list kept or dropped; `Dropped`, the
--- repeats among its first places dropped; `FilledUp`, its first places filled up with the last of them; `Held`, what holds after some heads; `Hearable`, what hearing more of them needs, and `Hears`, what it does; `fourFrom`, four
--- heads of a list; `Hearing` and `HeldAll`, need and promise for the first heads of a list, from nothing.
+-- repeats among its first places dropped; `FilledUp`, its first places filled up with the last of them; `Held`, what holds after some heads; `Hearable`, what hearing more
+-- of them needs, and `Hears`, what it does; `fourFrom`, four heads of a list; `Hearing` and `HeldAll`, need and promise for the first heads of a list, from nothing.
 use Prim.Native.Nat.{ℕ, zero, suc, _+_, _-_, _≤_, _<_}
 use mathlib.Core.Path.{_≡_}
 use mathlib.Core.Bool.{Bool, true, false, _||_, cond}
