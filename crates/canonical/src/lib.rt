@@ -1,21 +1,21 @@
 // For each entry of a good sheet: its key, its set of standard entries and its representative, in three tables that the caller lends.
 ghost use mathlib.Core.Path.{_≡_};
 ghost use mathlib.Core.Bool.{_||_};
-ghost use mathlib.Core.List.{List, List·Memᴰ};
+ghost use mathlib.Core.List.{[], List·Memᴰ};
 ghost use Prim.Native.Nat.{ℕ, _+_, _*_, _≤_, _<_, _^_};
 ghost use lib.Dec.{eqb};
-ghost use lib.ListN.{length};
+ghost use lib.ListN.{length, getD};
 ghost use Rattle.bitset.specs.Set.{single, leading};
 ghost use Rattle.bitset.specs.Words.{value};
 ghost use Rattle.bitset.specs.Inner.{FourWords};
 ghost use Rattle.deduction.specs.Entry.{Entry, parts};
-ghost use Rattle.deduction.specs.Standard.{least, xorAll, setAt};
+ghost use Rattle.deduction.specs.Standard.{least, xorAll};
 ghost use Rattle.dag.specs.Sheet.{countOf, listed};
 ghost use Rattle.dag.specs.Record.{itemCount, itemAt, decode, entryAt};
 ghost use Rattle.dag.specs.Refusal.{refusal};
 ghost use Rattle.canonical.specs.Inner.Key.{keyOf, keyAt, keyKind, keyLeft, keyRight, keyOpener, oppositeKey};
 ghost use Rattle.canonical.specs.Inner.Tables.{setIn, numberIn, RightLine, Right, Sized, Filled, soughtIn, openIn, Opened, Finished};
-ghost use Rattle.canonical.specs.Inner.Buckets.{keyBucket, setBucket, bucketOf, Bucketed, Alone, Candidates, FoundIn};
+ghost use Rattle.canonical.specs.Inner.Buckets.{keyBucket, setBucket, bucketOf, Bucketed, JoinedAt, Alone, Candidates, FoundIn};
 use dag::record;
 use dag::sheet;
 
@@ -300,8 +300,8 @@ fn line_of(
 
 // Entry i joins a bucket.
 fn join(buckets: &mut [[u64; 4]; 256], at: usize, i: u8)
-    requires { ⌜ (length (now buckets) ≡ 256) × (at < 256) ⌝ }
-    ensures { λ _. ⌜ ((e : ℕ → Entry) (key : ℕ) (ws : List ℕ) → Bucketed e i (now (buckets .entry)) → FourWords ws → key ≡ keyAt e i → value ws ≡ setAt e i → at ≡ bucketOf key ws → Bucketed e (i + 1) (now (buckets .exit))) ⌝ }
+    requires { ⌜ (length (now buckets) ≡ 256) × (at < 256) × FourWords (getD (now buckets) at []) ⌝ }
+    ensures { λ _. ⌜ JoinedAt at i (now (buckets .entry)) (now (buckets .exit)) ⌝ }
 {
     bitset::put(&mut buckets[at], i);
 }

@@ -22,7 +22,7 @@ use Rattle.deduction.specs.Entry.{Entry}
 use Rattle.deduction.specs.Standard.{setAt}
 use Rattle.canonical.specs.Inner.Key.{keyAt}
 use Rattle.canonical.specs.Inner.Tables.{setIn}
-use Rattle.canonical.specs.Inner.Buckets.{keyBucket, setBucket, bucketOf, Bucketed, Alone}
+use Rattle.canonical.specs.Inner.Buckets.{keyBucket, setBucket, bucketOf, Bucketed, JoinedAt, Alone}
 
 module _ {key : ℕ} (ws : List ℕ) where
   pub bucket-set : key ≡ 0 → bucketOf key ws ≡ setBucket ws
@@ -108,7 +108,7 @@ module _ (e : ℕ → Entry) {i : ℕ} {buckets : List (List ℕ)} (h : Bucketed
           elim (insert-cases (setIn buckets at) i j (sym (ap (λ (x : ℕ). member (setIn (set buckets at new) x) j) q ∙ ap (λ (x : List ℕ). member (value x) j) here ∙ ap (λ (x : ℕ). member x j) joined) ∙ m))
           [ inl s ↦ (let l = h .within at j s in omega arith) | inr s ↦ omega arith ]
 
-  pub bucketed-more : Bucketed e (i + 1) (set buckets at new)
+  bucketed-more : Bucketed e (i + 1) (set buckets at new)
   bucketed-more =
       record {
         key =
@@ -122,3 +122,8 @@ module _ (e : ℕ → Entry) {i : ℕ} {buckets : List (List ℕ)} (h : Bucketed
         words = λ b l. by-cases (ℕ-discrete b at) (λ q. subst FourWords (sym (ap (λ (x : ℕ). getD (set buckets at new) x []) q ∙ here)) words) (λ q. subst FourWords (sym (there b q)) (h .words b l));
         size = length-set buckets at new ∙ h .size;
       }
+
+-- so an entry that joined its bucket is in it
+pub bucketed-joined : (e : ℕ → Entry) {i at key : ℕ} {ws : List ℕ} {buckets buckets′ : List (List ℕ)} → Bucketed e i buckets → FourWords ws → key ≡ keyAt e i → value ws ≡ setAt e i
+    → at ≡ bucketOf key ws → JoinedAt at i buckets buckets′ → Bucketed e (i + 1) buckets′
+bucketed-joined e {i = i} h four k v p j = subst (Bucketed e (i + 1)) (sym (j .one)) (bucketed-more e h four k v p (j .words) (j .more))

@@ -8,7 +8,7 @@ use lib.ListN.{getD}
 use mir.Syntax.{w64}
 use mir.Val.{Fits}
 use Rattle.bitset.specs.Inner.{FourWords}
-use Rattle.canonical.proofs.Laws.Buckets.{bucket-below}
+use Rattle.canonical.proofs.Laws.Buckets.{bucket-below, bucketed-joined}
 use Rattle.dag.specs.Sheet.{countOf}
 use Rattle.dag.specs.Record.{entryAt}
 use Rattle.dag.proofs.Laws.Good.{good}
@@ -73,8 +73,12 @@ element-write-reps c = below (c .before .before .before .before .before .before)
 cast-join : tie.Need-cast-join Inv-loop μ-loop
 cast-join c = omega (arith, below (c .before .before .before .before .before .before .before))
 
+-- its bucket is one of the 256
+bucket-low : (c : tie.After-line-of Inv-loop μ-loop) → c .line-of .result .bucket < 256
+bucket-low c = omega (arith, c .line-of .ensures .1, bucket-below (c .line-of .result .key) (c .line-of .result .set))
+
 join-requires : tie.Need-join-requires Inv-loop μ-loop
-join-requires c κs = let m = c .before .before in (m .before .before .before .before .before .before .loop .inv .3 .size, omega (arith, m .line-of .ensures .1, bucket-below (m .line-of .result .key) (m .line-of .result .set)))
+join-requires c κs = let m = c .before .before in let h = m .before .before .before .before .before .before .loop .inv .3 in let b = below (m .before .before .before .before .before) in (h .size, omega (arith, bucket-low m, b), h .words _ (omega (arith, bucket-low m, b)))
 
 add-i : tie.Need-add-i Inv-loop μ-loop
 add-i c = omega (arith, below (c .before .before .before .before .before .before .before .before))
@@ -91,7 +95,7 @@ loop-again c = let m = c .before .before .before in
       omega arith,
       l .inv .1,
       filled-more (entryAt (now (a .s))) (now (a .keys)) (now (a .sets)) (now (a .reps)) (l .inv .2) (below b) line,
-      c .join .ensures (entryAt (now (a .s))) (m .line-of .result .key) (m .line-of .result .set) (l .inv .3) (words m) (line .key) (line .set) (m .line-of .ensures .1),
+      bucketed-joined (entryAt (now (a .s))) (l .inv .3) (words m) (line .key) (line .set) (m .line-of .ensures .1) (c .join .ensures),
     )
 
 returns : tie.Need-returns Inv-loop μ-loop

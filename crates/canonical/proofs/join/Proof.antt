@@ -1,7 +1,7 @@
 -- `canonical::join` meets its contract: one member more in one bucket.
+use mathlib.Core.Path.{refl}
 use native.Mathlib.Omega.{arith}
 use borrow.Author.Needs.{needs}
-use Rattle.canonical.proofs.Laws.Buckets.{bucketed-more}
 use Rattle.canonical.proofs.join.Statement.{statement}
 use Rattle.canonical.proofs.join.Tie as tie
 
@@ -15,10 +15,8 @@ put-requires : tie.Need-put-requires
 put-requires c κs = search needs
 
 returns : tie.Need-returns
-returns c = let s = c .before .before in
-    λ e key ws h four k v q.
-    let p = c .put .ensures (h .words (s .args .at) (s .pre .1)) in
-    bucketed-more e h four k v q (p .0) (p .1)
+returns c = let p = c .put .ensures (c .before .before .pre .2) in
+    record { bucket = _; one = refl; words = p .0; more = p .1 }
 
 pub join-spec : {M : Type 1} → statement M
 join-spec = tie.close (tie.spec mul-put index-1-put put-requires returns)

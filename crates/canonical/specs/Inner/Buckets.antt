@@ -1,13 +1,13 @@
 -- Buckets: 256 sets of entries, by which an entry with a given key or a given set is found without a search over all.
--- Defined: `keyBucket` and `setBucket`, the bucket of a key and of a set, and `bucketOf`, that of an entry; `Bucketed`, each of the first n entries is in its bucket; `Alone`, a set of one
+-- Defined: `keyBucket` and `setBucket`, the bucket of a key and of a set, and `bucketOf`, that of an entry; `Bucketed`, each of the first n entries is in its bucket; `JoinedAt`, an entry joined a bucket; `Alone`, a set of one
 -- member; `Candidates`, a set in which a search finds what it looks for; `FoundIn`, what a search over one word of it finds.
 use mathlib.Core.Path.{_≡_}
 use mathlib.Core.Bool.{Bool, true, false, cond}
 use mathlib.Core.List.{List, []}
 use Prim.Native.Nat.{ℕ, _+_, _%_, _<_}
 use lib.Dec.{eqb}
-use lib.ListN.{length, getD}
-use Rattle.bitset.specs.Set.{member, single, leading}
+use lib.ListN.{length, getD, set}
+use Rattle.bitset.specs.Set.{member, insert, single, leading}
 use Rattle.bitset.specs.Words.{value}
 use Rattle.bitset.specs.Inner.{FourWords}
 use Rattle.deduction.specs.Entry.{Entry}
@@ -34,6 +34,13 @@ pub record Bucketed (e : ℕ → Entry) (n : ℕ) (buckets : List (List ℕ)) : 
   pub within : (b j : ℕ) → member (setIn buckets b) j ≡ true → j < n
   pub words : (b : ℕ) → b < 256 → FourWords (getD buckets b [])
   pub size : length buckets ≡ 256
+
+-- entry i joined one bucket, and every other is as it was
+pub record JoinedAt (at i : ℕ) (buckets buckets′ : List (List ℕ)) : Type 0 where
+  pub bucket : List ℕ
+  pub one : buckets′ ≡ set buckets at bucket
+  pub words : FourWords bucket
+  pub more : value bucket ≡ insert (setIn buckets at) i
 
 -- a set of one member
 abbrev pub Alone : ℕ → Type 0
