@@ -1,5 +1,7 @@
 // Sets of entries as four 64-bit words by value. Entry e is bit e mod 64 of word e div 64, and every u8 is an entry.
 // A set's meaning is one natural number, `value` of its words (specs/Words.antt); the contracts speak of that number.
+#![tactic(auto)]
+
 ghost use Rattle.std.specs.Prelude.{◌≡◌, ◌++◌, ℕ, ◌+◌, ◌*◌, ◌/◌, ◌%◌, ◌≤◌, ◌<◌, ◌^◌, eqb, leb, cond, not, ◌&&◌, ◌||◌, length, take, drop, get_or};
 ghost use Rattle.std.specs.Int.Bits.{bit_xor};
 ghost use Rattle.std.specs.Int.Count.{ones, count_trailing_zeros};

@@ -1,4 +1,6 @@
 // For each entry of a good sheet: its key, its set of standard entries and its representative, in three tables that the caller lends.
+#![tactic(auto)]
+
 ghost use Rattle.std.specs.Prelude.{◌≡◌, ◌||◌, ℕ, ◌+◌, ◌*◌, ◌≤◌, ◌<◌, ◌^◌, eqb, length, get_or};
 ghost use mathlib.Core.List.{[], Memᴰ};
 ghost use Rattle.bitset.specs.Set.{single, leading};

@@ -1,4 +1,6 @@
 // The card of a sheet, made in a lent buffer, byte by byte.
+#![tactic(auto)]
+
 ghost use Rattle.std.specs.Prelude.{◌≡◌, true, not, ◌+◌, ◌*◌, ◌≤◌, length};
 ghost use Rattle.deduction.specs.Setting.{every};
 ghost use Rattle.dag.specs.Sheet.{trace_length};

@@ -1,4 +1,6 @@
 // A sheet's bytes: the term DAG of document 01. Which byte slices are refused and why, and readers of a good one.
+#![tactic(auto)]
+
 ghost use Rattle.std.specs.Prelude.{◌≡◌, ◌⊎◌, ◌≤◌};
 ghost use Rattle.dag.specs.Refusal.{refusal};
 ghost use Rattle.dag.specs.Code.{code_of};

@@ -1,4 +1,6 @@
 // The steps of the intruder: the whole step of a number, and the run that makes steps.
+#![tactic(auto)]
+
 pub mod run;
 mod whole;
 mod writer;

@@ -1,6 +1,8 @@
 // What the intruder knows: a set of representatives, and a basis of rows over the field of two elements.
 // The contracts say what is stored, for whatever remainder is given. Laws/Learn.antt among the proofs shows that with the right one this is the elimination that
 // `deduction` defines (its specs/Elimination.antt).
+#![tactic(auto)]
+
 ghost use Rattle.std.specs.Prelude.{◌≡◌, true, ◌+◌, ◌≤◌, length};
 ghost use Rattle.bitset.specs.Set.{member};
 ghost use Rattle.bitset.specs.Words.{value};

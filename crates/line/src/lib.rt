@@ -1,4 +1,6 @@
 // The lines of the card, made in a lent buffer, byte by byte. Each function appends from the place `at` on and answers the place after its text.
+#![tactic(auto)]
+
 ghost use Rattle.std.specs.Prelude.{◌++◌, ◌+◌, ◌≤◌, length};
 ghost use Rattle.bitset.specs.Words.{value};
 ghost use Rattle.line.specs.Decimal.{decimal};

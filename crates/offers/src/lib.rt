@@ -1,5 +1,7 @@
 // Offers: the steps by a rule other than the sum that an entry gives or is gained by, kept in a table, the least for each head. "best" has for each head
 // its least offer without the head, and 65,535 where there is none; "ready" has the heads that have one.
+#![tactic(auto)]
+
 ghost use Rattle.std.specs.Prelude.{cond, [], ◌≤◌, ◌<◌, eqb, get_or};
 ghost use Rattle.bitset.specs.Words.{value};
 ghost use Rattle.bitset.specs.Inner.{FourWords};

@@ -1,4 +1,6 @@
 // The verdict: can an intruder who knows the public atoms and heard the messages before the cut derive the goal?
+#![tactic(auto)]
+
 ghost use Rattle.std.specs.Prelude.{◌≡◌, ℕ, ◌+◌, ◌*◌, ◌≤◌, length};
 ghost use Rattle.deduction.specs.Setting.{every, switches};
 ghost use Rattle.bitset.specs.Words.{value};

@@ -1,5 +1,7 @@
 // Prints the card of the sheet on standard input. The card's text comes from a proved function; this program reads and writes.
 // A stream that fails gets one line on standard error.
+#![tactic(auto)]
+
 mod stream;
 mod text;
 
