@@ -6,12 +6,10 @@ use native.Mathlib.Omega.{arith}
 use mathlib.Core.Bool.{cond}
 use lib.Dec.{leb}
 use lib.ListN.{length, take}
-use borrow.Author.Rules.{rules}
 use Rattle.bitset.proofs.Laws.Choice.{when_le, when_not_le}
 use Rattle.bitset.proofs.Laws.Bytes.{eight, words_bytes}
 use Rattle.bitset.specs.Words.{packed, value, set_of}
-use Rattle.bitset.proofs.read.Statement.{statement}
-use Rattle.bitset.proofs.read.Tie as tie
+use Rattle.bitset.proofs.read.Goals as goal
 
 at_place : (b : List ℕ) (k : ℕ) → k + 8 ≤ length b → {w : ℕ} → w ≡ cond (leb (k + 8) (length b)) (set_of (eight b k)) 0 → w ≡ set_of (eight b k)
 at_place b k h e = e ∙ when_le (k + 8) (length b) (set_of (eight b k)) 0 h
@@ -22,29 +20,12 @@ all : (b : List ℕ) → 32 ≤ length b → {w0 w1 w2 w3 : ℕ} → w0 ≡ cond
 all b h e0 e1 e2 e3 =
     simp (at_place b 0 (omega arith) e0, at_place b 8 (omega arith) e1, at_place b 16 (omega arith) e2, at_place b 24 (omega arith) e3) (words_bytes b h)
 
-returns : tie.Need-returns
+pub returns-then-b-lt32 : goal.returns-then-b-lt32
 unfolding packed
-returns c = let b = c.before.before.args.b.now in sym (when_not_le 32 (length b) (set_of (take 32 b)) 0 c.if1.true)
+returns-then-b-lt32 c = let b = c.args.b.now in sym (when_not_le 32 (length b) (set_of (take 32 b)) 0 c.if-b-lt32.true)
 
-word-requires : tie.Need-word-requires
-word-requires c κs = search rules
-
-word-requires-2 : tie.Need-word-requires-2
-word-requires-2 c κs = search rules
-
-word-requires-3 : tie.Need-word-requires-3
-word-requires-3 c κs = search rules
-
-word-requires-4 : tie.Need-word-requires-4
-word-requires-4 c κs = search rules
-
-returns-2 : tie.Need-returns-2
-returns-2 c = let b = c.before.before.before.before.before.before.args.b.now in
-    all b c.before.before.before.before.if1.false c.before.before.before.word.ensures c.before.before.word2.ensures
-    c.before.word3.ensures c.word4.ensures
-    ∙ sym (when_le 32 (length b) (set_of (take 32 b)) 0 c.before.before.before.before.if1.false)
-
-pub read_spec : {M : Type 1} → statement M
-read_spec =
-    tie.close
-    (tie.spec returns word-requires word-requires-2 word-requires-3 word-requires-4 returns-2)
+pub returns : goal.returns
+returns c = let b = c.args.b.now in
+    all b c.if-b-lt32.false c.before.before.before.word.ensures c.before.before.word-2.ensures
+    c.before.word-3.ensures c.word-4.ensures
+    ∙ sym (when_le 32 (length b) (set_of (take 32 b)) 0 c.if-b-lt32.false)

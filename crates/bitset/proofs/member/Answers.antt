@@ -11,34 +11,16 @@ use Rattle.bitset.specs.Set.{member}
 use Rattle.bitset.specs.Words.{value}
 use Rattle.bitset.proofs.Laws.Place.{place_back}
 use Rattle.bitset.proofs.Laws.Words.{Below, value_member}
-use Rattle.bitset.proofs.member.Statement.{statement}
-use Rattle.bitset.proofs.member.Tie as tie
+use Rattle.bitset.proofs.member.Goals as goal
+use Rattle.bitset.proofs.member.Goals.{Start}
 
-words : (c : tie.Start) → Below 64 c.args.s
+words : (c : Start) → Below 64 c.args.s
 words c i = let f : Fits w64 (get_or c.args.s i 0) = search rules in f.fits
 
-word-of-requires : tie.Need-word-of-requires
-word-of-requires c κs = search rules
-
-nth-requires : tie.Need-nth-requires
-nth-requires c κs = search rules
-
-bit-of-requires : tie.Need-bit-of-requires
-bit-of-requires c κs = search rules
-
-cast-result : tie.Need-overflow-cast-result
-cast-result c = search rules
-
-shr-result : tie.Need-overflow-shr-result
-shr-result c = search rules
-
-returns : tie.Need-returns
-returns c = let a = c.before.before.before.args in
+pub returns : goal.returns
+returns c = let a = c.args in
     let w = c.before.before.word_of in
-    let b = c.bit-of in
+    let b = c.bit_of in
     ap (λ (x : ℕ). eqb (x / 2 ^ b.result % 2) 1) c.before.nth.ensures
     ∙ sym (value_member a.s (words c.before.before.before) w.result b.result (omega arith))
     ∙ ap (member (value a.s)) (place_back 6 a.e w.result b.result w.ensures b.ensures)
-
-pub member_spec : {M : Type 1} → statement M
-member_spec = tie.close (tie.spec word-of-requires nth-requires bit-of-requires cast-result shr-result returns)
