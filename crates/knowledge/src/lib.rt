@@ -23,7 +23,7 @@ pub struct Knowledge {
 // Stores a row: the four words of s from at on.
 fn put(rows: &mut [u64; 1024], at: usize, s: [u64; 4])
     requires { (length rows.old ≡ 1024) × (at + 4 ≤ 1024) }
-    ensures at_after { words_at rows.new at ≡ s }
+    ensures words { words_at rows.new at ≡ s }
     ensures kept { SameOutside at (at + 4) rows.old rows.new }
 {
     rows[at] = s[0];
@@ -50,8 +50,8 @@ impl Knowledge {
     // "Hearing a term takes the listener's state and hands the enlarged one back": the representative e joins the known set, and its
     // remainder, what the rows leave of its set, becomes a row unless it is empty. Of a known one nothing is left.
     pub fn hear(mut self, e: u8, remainder: [u64; 4]) -> Self
-        requires room_2 { Room self.known self.len }
-        requires remainder_value { member (value self.known) e ≡ true → value remainder ≡ 0 }
+        requires room_left { Room self.known self.len }
+        requires known_empty { member (value self.known) e ≡ true → value remainder ≡ 0 }
         ensures state { Stored e (value remainder) self.known self.rows self.len result.known result.rows result.len }
         ensures room { Room result.known result.len }
     {

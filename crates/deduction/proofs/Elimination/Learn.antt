@@ -146,4 +146,4 @@ unfolding learn_all
 learn_all_learnt {s} {n} {before} {k} [] l h = subst (λ (x : List ℕ). Learnt s n x k) (sym (append-nil before)) l
 learn_all_learnt {s} {n} {before} {k} (e ∷ es) l h =
     subst (λ (x : List ℕ). Learnt s n x (learn_all s (learn s k e) es)) (append_assoc before (e ∷ []) es)
-    (learn_all_learnt es (learn_learnt l e (h e (Memᴰ.head refl))) (λ x m. h x (Memᴰ.tail m)))
+    (learn_all_learnt {before = before ++ (e ∷ [])} es (learn_learnt l e (h e (Memᴰ.head refl))) (λ x m. h x (Memᴰ.tail m)))

@@ -63,7 +63,7 @@ module _ (t : ℕ → Term) where
   pub end_kept : {g h : List Term} (ss : List Step) → Keeps g h → Keeps (end_state t g ss) (end_state t h ss)
   unfolding end_state
   end_kept [] f = f
-  end_kept (s ∷ ss) f = end_kept ss (keeps_newest (t s.head) (t s.head) same f)
+  end_kept {g = g} {h = h} (s ∷ ss) f = end_kept {g = t s.head ∷ g} {h = t s.head ∷ h} ss (keeps_newest (t s.head) (t s.head) same f)
 
   -- from the terms of entries: exactly their terms and those of the gained heads
   pub end_exact : (es : List ℕ) (ss : List Step) (u : Term) → Holds (end_state t (map t es) ss) u ↔ ((i : ℕ) × Memᴰ i (es ++ map (λ (s : Step). s.head) ss) × (t i ≈ u))
@@ -120,9 +120,9 @@ module _ (t : ℕ → Term) where
 
     replay_extends : {on : Setting} {start d g a : List Term} {ss : List Step} → Derivation on start d → Alike d g → Replays on t n g ss a → (b : List Term) × Derivation on start b × Alike b a
     replay_extends {d = held} d f done = (held, d, f)
-    replay_extends d f (next {s = s} w r rs) =
+    replay_extends {d = held} d f (next {s = s} w r rs) =
         let (a, c, q) = right_derives d (λ u. (f u).1) w r in
-        replay_extends c (λ u. (keeps_newest a (t s.head) q (λ v. (f v).0) u, keeps_newest (t s.head) a (flip q) (λ v. (f v).1) u)) rs
+        replay_extends {d = a ∷ held} c (λ u. (keeps_newest a (t s.head) q (λ v. (f v).0) u, keeps_newest (t s.head) a (flip q) (λ v. (f v).1) u)) rs
 
     -- a replay that passes is a derivation
     pub replay_derivation : {on : Setting} {start a : List Term} {ss : List Step} → Replays on t n start ss a → (g : List Term) × Derivation on start g × Alike g a
