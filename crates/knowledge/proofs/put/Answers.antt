@@ -9,4 +9,4 @@ use Rattle.knowledge.proofs.put.Goals as goal
 
 pub returns : goal.returns
 returns c = let ws = c.args.rows.now in
-    let s = c.args.s in record { at_after = store_words ws c.args.at (get_or s 0 0) (get_or s 1 0) (get_or s 2 0) (get_or s 3 0) (omega arith) ∙ sym (four s (search rules)); kept = store_kept ws c.args.at (get_or s 0 0) (get_or s 1 0) (get_or s 2 0) (get_or s 3 0) }
+    let s = c.args.s in record { words = store_words ws c.args.at (get_or s 0 0) (get_or s 1 0) (get_or s 2 0) (get_or s 3 0) (omega arith) ∙ sym (four s (search rules)); kept = store_kept ws c.args.at (get_or s 0 0) (get_or s 1 0) (get_or s 2 0) (get_or s 3 0) }
