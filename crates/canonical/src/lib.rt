@@ -117,7 +117,7 @@ fn key_in_word(keys: &[u64; 256], word: u64, base: u8, key: u64) -> u16
 
 // The lowest entry before n with this key, and n where there is none. The bucket is the key's.
 fn first_key(keys: &[u64; 256], bucket: [u64; 4], n: u16, key: u64) -> u16
-    requires n_bound { n ≤ 256 }
+    requires bound { n ≤ 256 }
     requires candidates { Candidates (λ j. eqb (number_in keys.now j) key) n (value bucket) }
     ensures { result ≡ least (λ j. eqb (number_in keys.now j) key) n }
 {
@@ -158,7 +158,7 @@ fn set_in_word(sets: &[[u64; 4]; 256], word: u64, base: u8, set: [u64; 4]) -> u1
 
 // The lowest entry before n with this set, and n where there is none. The bucket is the set's.
 fn first_set(sets: &[[u64; 4]; 256], bucket: [u64; 4], n: u16, set: [u64; 4]) -> u16
-    requires n_bound { n ≤ 256 }
+    requires bound { n ≤ 256 }
     requires candidates { Candidates (λ j. eqb (set_in sets.now j) (value set)) n (value bucket) }
     ensures { result ≡ least (λ j. eqb (set_in sets.now j) (value set)) n }
 {
@@ -266,9 +266,9 @@ fn line_of(
     reps: &[u8; 256],
     buckets: &[[u64; 4]; 256],
 ) -> Line
-    requires s_value { refusal s.now ≡ 0 }
-    requires i_bound { i < count_of s.now }
-    requires right { Right (entry_at s.now) i keys.now sets.now reps.now }
+    requires good { refusal s.now ≡ 0 }
+    requires entry { i < count_of s.now }
+    requires lines { Right (entry_at s.now) i keys.now sets.now reps.now }
     requires bucketed { Bucketed (entry_at s.now) i buckets.now }
     ensures line { RightLine (entry_at s.now) i result.key result.set result.rep }
     ensures bucket { result.bucket ≡ bucket_of result.key result.set }
@@ -314,7 +314,7 @@ fn fill(
     reps: &mut [u8; 256],
     buckets: &mut [[u64; 4]; 256],
 )
-    requires s_value { refusal s.now ≡ 0 }
+    requires good { refusal s.now ≡ 0 }
     requires sized { Sized keys.old sets.old reps.old }
     requires bucketed { Bucketed (entry_at s.now) 0 buckets.old }
     ensures lines { Filled (entry_at s.now) (count_of s.now) keys.old sets.old reps.old keys.new sets.new reps.new }
@@ -336,8 +336,8 @@ fn fill(
 
 // The key of entry i with what opens it, if it is a lock: the first entry with the key of the opposite half, found in the bucket of that key.
 fn open_key(keys: &[u64; 256], buckets: &[[u64; 4]; 256], n: u16, i: u8) -> u64
-    requires n_bound { n ≤ 256 }
-    requires i_bound { number_in keys.now i < 2 ^ 40 }
+    requires bound { n ≤ 256 }
+    requires key { number_in keys.now i < 2 ^ 40 }
     requires candidates { key_kind (number_in keys.now i) ≡ 7 → Candidates (λ j. eqb (number_in keys.now j) (sought_in keys.now (number_in keys.now i))) n (set_in buckets.now (key_bucket (sought_in keys.now (number_in keys.now i)))) }
     ensures { result ≡ open_in keys.now n (number_in keys.now i) }
 {
@@ -355,9 +355,9 @@ fn open_key(keys: &[u64; 256], buckets: &[[u64; 4]; 256], n: u16, i: u8) -> u64
 // Puts into the key of each lock of a good sheet what opens it. The opposite half may stand above the lock, so this waits for all keys. Halves keep their
 // keys, so they stay in their buckets.
 fn open_locks(s: &[u8], keys: &mut [u64; 256], buckets: &[[u64; 4]; 256])
-    requires s_value { refusal s.now ≡ 0 }
-    requires keys_len { length keys.old ≡ 256 }
-    requires by_index { (i : ℕ) → i < count_of s.now → number_in keys.old i ≡ key_at (entry_at s.now) i }
+    requires good { refusal s.now ≡ 0 }
+    requires places { length keys.old ≡ 256 }
+    requires keys_made { (i : ℕ) → i < count_of s.now → number_in keys.old i ≡ key_at (entry_at s.now) i }
     requires bucketed { Bucketed (entry_at s.now) (count_of s.now) buckets.now }
     ensures { Opened (entry_at s.now) (count_of s.now) keys.old keys.new }
 {
@@ -372,7 +372,7 @@ fn open_locks(s: &[u8], keys: &mut [u64; 256], buckets: &[[u64; 4]; 256])
 
 // The tables of a good sheet: the first lines, one for each entry. The other lines are left as they are.
 pub fn tables(s: &[u8], keys: &mut [u64; 256], sets: &mut [[u64; 4]; 256], reps: &mut [u8; 256])
-    requires s_value { refusal s.now ≡ 0 }
+    requires good { refusal s.now ≡ 0 }
     requires sized { Sized keys.old sets.old reps.old }
     ensures { Finished (entry_at s.now) (count_of s.now) keys.old sets.old reps.old keys.new sets.new reps.new }
 {

@@ -1,0 +1,32 @@
+-- `canonical::key_in_word` meets its contract: the members are tried from the lowest on.
+use Prim.Native.Nat.{◌+◌, ◌<◌}
+use native.Mathlib.Omega.{arith}
+use lib.Dec.{eqb}
+use borrow.Author.Rules.{rules}
+use borrow.Author.Tests.{eq-eqb, ne_eqb}
+use Rattle.bitset.proofs.Laws.Bits.{left_within, left_less}
+use Rattle.canonical.specs.Inner.Tables.{number_in}
+use Rattle.canonical.proofs.Laws.Search.{tried_start, tried_again, tried_found, tried_end}
+use Rattle.canonical.proofs.key_in_word.Goals as goal
+
+pub loop-left-init : goal.loop-left-init
+loop-left-init c = let a = c.args in
+    tried_start (λ j. eqb (number_in a.keys.now j) a.key) a.base (search rules)
+
+pub overflow_add-i : goal.overflow_add-i
+overflow_add-i c = omega (arith, (let it : c.args.base + c.lowest.result < 256 = omega (arith, c.requires, c.lowest.ensures, left_within c.loop-left.invariant.rest c.loop-left-test.true) in it))
+
+pub bounds-keys-i : goal.bounds-keys-i
+bounds-keys-i c = (let it : c.args.base + c.lowest.result < 256 = omega (arith, c.requires, c.lowest.ensures, left_within c.loop-left.invariant.rest c.loop-left-test.true) in it)
+
+pub returns-then-keys-i : goal.returns-then-keys-i
+returns-then-keys-i c = tried_found c.loop-left.invariant c.loop-left-test.true c.lowest.ensures (eq-eqb _ c.args.key c.if-keys-i.true)
+
+pub loop-left-smaller : goal.loop-left-smaller
+loop-left-smaller c = left_less c.loop-left.invariant.rest c.loop-left-test.true c.rest-left.ensures
+
+pub loop-left-preserved : goal.loop-left-preserved
+loop-left-preserved c = tried_again c.loop-left.invariant c.loop-left-test.true c.lowest.ensures c.rest-left.ensures (ne_eqb _ c.args.key c.if-keys-i.false)
+
+pub returns : goal.returns
+returns c = tried_end c.loop-left.invariant (omega (arith, c.loop-left-test.false))

@@ -1,0 +1,11 @@
+-- `canonical::key_in_word` meets its contract: the members are tried from the lowest on.
+use lib.Dec.{eqb}
+use Rattle.canonical.specs.Inner.Tables.{number_in}
+use Rattle.canonical.proofs.Laws.Search.{Tried}
+use Rattle.canonical.proofs.key_in_word.Given as goal
+
+abbrev pub invariant-loop-left : goal.invariant-loop-left
+invariant-loop-left l = Tried (λ j. eqb (number_in l.keys j) l.key) l.word l.base l.left
+
+abbrev pub decreases-loop-left : goal.decreases-loop-left
+decreases-loop-left l = l.left
