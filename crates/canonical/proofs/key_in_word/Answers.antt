@@ -14,10 +14,12 @@ loop-left-init c = let a = c.args in
     tried_start (λ j. eqb (number_in a.keys.now j) a.key) a.base (search rules)
 
 pub overflow_add-i : goal.overflow_add-i
-overflow_add-i c = omega (arith, (let it : c.args.base + c.lowest.result < 256 = omega (arith, c.requires, c.lowest.ensures, left_within c.loop-left.invariant.rest c.loop-left-test.true) in it))
+overflow_add-i c = let below : c.args.base + c.lowest.result < 256 = omega (arith, c.requires, c.lowest.ensures, left_within c.loop-left.invariant.rest c.loop-left-test.true) in
+    omega (arith, below)
 
 pub bounds-keys-i : goal.bounds-keys-i
-bounds-keys-i c = (let it : c.args.base + c.lowest.result < 256 = omega (arith, c.requires, c.lowest.ensures, left_within c.loop-left.invariant.rest c.loop-left-test.true) in it)
+bounds-keys-i c = let below : c.args.base + c.lowest.result < 256 = omega (arith, c.requires, c.lowest.ensures, left_within c.loop-left.invariant.rest c.loop-left-test.true) in
+    below
 
 pub returns-then-keys-i : goal.returns-then-keys-i
 returns-then-keys-i c = tried_found c.loop-left.invariant c.loop-left-test.true c.lowest.ensures (eq-eqb _ c.args.key c.if-keys-i.true)

@@ -23,31 +23,36 @@ loop-i-init c = let p = c.requires in
     (search rules, c.count-n.ensures, record { done = λ j l. absurd (omega arith); left = λ j l h. p.keys_made j h }, p.places, λ j l. refl)
 
 pub overflow_cast-i : goal.overflow_cast-i
-overflow_cast-i c = omega (arith, (let it : c.loop-i.i < 256 = omega (arith, (good c.args.s.now c.requires.good).few) in it))
+overflow_cast-i c = let below : c.loop-i.i < 256 = omega (arith, (good c.args.s.now c.requires.good).few) in
+    omega (arith, below)
 
 pub open_key-key-requires : goal.open_key-key-requires
-open_key-key-requires c = let l = c.loop-i in
+open_key-key-requires c = let bytes : Bytes c.args.s.now = λ k. let f : Fits w8 (get_or c.args.s.now k 0) = c.type_inv.s k in f.fits in
+    let l = c.loop-i in
     let s = c.args.s.now in
     let h : l.i < count_of s = omega arith in
     let key = number_in l.keys l.i in record {
       bound = omega (arith, (good s c.requires.good).few);
-      key = good_room s ((let it : Bytes c.args.s.now = λ k. let f : Fits w8 (get_or c.args.s.now k 0) = c.type_inv.s k in f.fits in it)) c.requires.good l.i h l.keys l.invariant.2;
+      key = good_room s bytes c.requires.good l.i h l.keys l.invariant.2;
       candidates = subst (λ (n : ℕ). key_kind key ≡ 7 → Candidates (λ j. eqb (number_in l.keys j) (sought_in l.keys key)) n (set_in c.args.buckets.now (key_bucket (sought_in l.keys key)))) (sym l.invariant.1)
-          (good_candidates s ((let it : Bytes c.args.s.now = λ k. let f : Fits w8 (get_or c.args.s.now k 0) = c.type_inv.s k in f.fits in it)) c.requires.good l.i h l.keys l.invariant.2 c.args.buckets.now c.requires.bucketed);
+          (good_candidates s bytes c.requires.good l.i h l.keys l.invariant.2 c.args.buckets.now c.requires.bucketed);
     }
 
 pub bounds-keys-i : goal.bounds-keys-i
-bounds-keys-i c = (let it : c.loop-i.i < 256 = omega (arith, (good c.args.s.now c.requires.good).few) in it)
+bounds-keys-i c = let below : c.loop-i.i < 256 = omega (arith, (good c.args.s.now c.requires.good).few) in
+    below
 
 pub loop-i-preserved : goal.loop-i-preserved
-loop-i-preserved c = let l = c.loop-i in
+loop-i-preserved c = let below : c.loop-i.i < 256 = omega (arith, (good c.args.s.now c.requires.good).few) in
+    let bytes : Bytes c.args.s.now = λ k. let f : Fits w8 (get_or c.args.s.now k 0) = c.type_inv.s k in f.fits in
+    let l = c.loop-i in
     let s = c.args.s.now in
     let h : l.i < count_of s = omega arith in
     let v = c.open_key-key.result in
-    let p = c.open_key-key.ensures ∙ ap (λ (n : ℕ). open_in l.keys n (number_in l.keys l.i)) l.invariant.1 ∙ good_next s ((let it : Bytes c.args.s.now = λ k. let f : Fits w8 (get_or c.args.s.now k 0) = c.type_inv.s k in f.fits in it)) c.requires.good l.i h l.keys l.invariant.2 in (
+    let p = c.open_key-key.ensures ∙ ap (λ (n : ℕ). open_in l.keys n (number_in l.keys l.i)) l.invariant.1 ∙ good_next s bytes c.requires.good l.i h l.keys l.invariant.2 in (
       omega arith,
       l.invariant.1,
-      opening_more (entry_at s) (count_of s) l.i l.keys v l.invariant.2 (omega (arith, l.invariant.3, (let it : c.loop-i.i < 256 = omega (arith, (good c.args.s.now c.requires.good).few) in it))) p,
+      opening_more (entry_at s) (count_of s) l.i l.keys v l.invariant.2 (omega (arith, l.invariant.3, below)) p,
       length-set l.keys l.i v ∙ l.invariant.3,
       λ j m. get_or-set_other l.keys l.i j v 0 (λ q. absurd (omega arith)) ∙ l.invariant.4 j m,
     )

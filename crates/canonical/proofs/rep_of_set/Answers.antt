@@ -11,14 +11,17 @@ use Rattle.canonical.proofs.Laws.Buckets.{alone_yes, alone_no}
 use Rattle.canonical.proofs.rep_of_set.Goals as goal
 
 pub returns-then-equal : goal.returns-then-equal
-returns-then-equal c = record { alone = λ a. c.leading-e.ensures; found = λ f. absurd (f ((let it : Alone (value c.args.set) = alone_yes (value c.args.set) c.leading-e.ensures c.singleton.ensures (sym c.equal.ensures ∙ c.if-equal.true) in it))) }
+returns-then-equal c = let alone : Alone (value c.args.set) = alone_yes (value c.args.set) c.leading-e.ensures c.singleton.ensures (sym c.equal.ensures ∙ c.if-equal.true) in
+    record { alone = λ a. c.leading-e.ensures; found = λ f. absurd (f alone) }
 
 pub first_set-requires : goal.first_set-requires
-first_set-requires c = record { bound = search rules; candidates = c.requires ((let it : ¬ Alone (value c.args.set) = alone_no (value c.args.set) c.leading-e.ensures c.singleton.ensures (sym c.equal.ensures ∙ c.if-equal.false) in it)) }
+first_set-requires c = let others : ¬ Alone (value c.args.set) = alone_no (value c.args.set) c.leading-e.ensures c.singleton.ensures (sym c.equal.ensures ∙ c.if-equal.false) in
+    record { bound = search rules; candidates = c.requires others }
 
 pub overflow_cast-result : goal.overflow_cast-result
 overflow_cast-result c = let a = c.args in
     omega (arith, c.first_set.ensures, least_le (λ j. eqb (set_in a.sets.now j) (value a.set)) a.n)
 
 pub returns : goal.returns
-returns c = record { alone = λ a. absurd ((let it : ¬ Alone (value c.args.set) = alone_no (value c.args.set) c.leading-e.ensures c.singleton.ensures (sym c.equal.ensures ∙ c.if-equal.false) in it) a); found = λ f. c.first_set.ensures }
+returns c = let others : ¬ Alone (value c.args.set) = alone_no (value c.args.set) c.leading-e.ensures c.singleton.ensures (sym c.equal.ensures ∙ c.if-equal.false) in
+    record { alone = λ a. absurd (others a); found = λ f. c.first_set.ensures }

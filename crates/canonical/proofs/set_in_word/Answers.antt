@@ -15,10 +15,12 @@ loop-left-init c = let a = c.args in
     tried_start (λ j. eqb (set_in a.sets.now j) (value a.set)) a.base (search rules)
 
 pub overflow_add-i : goal.overflow_add-i
-overflow_add-i c = omega (arith, (let it : c.args.base + c.lowest.result < 256 = omega (arith, c.requires, c.lowest.ensures, left_within c.loop-left.invariant.rest c.loop-left-test.true) in it))
+overflow_add-i c = let below : c.args.base + c.lowest.result < 256 = omega (arith, c.requires, c.lowest.ensures, left_within c.loop-left.invariant.rest c.loop-left-test.true) in
+    omega (arith, below)
 
 pub bounds-sets-i : goal.bounds-sets-i
-bounds-sets-i c = (let it : c.args.base + c.lowest.result < 256 = omega (arith, c.requires, c.lowest.ensures, left_within c.loop-left.invariant.rest c.loop-left-test.true) in it)
+bounds-sets-i c = let below : c.args.base + c.lowest.result < 256 = omega (arith, c.requires, c.lowest.ensures, left_within c.loop-left.invariant.rest c.loop-left-test.true) in
+    below
 
 pub returns-then-equal : goal.returns-then-equal
 returns-then-equal c = tried_found c.loop-left.invariant c.loop-left-test.true c.lowest.ensures (sym c.equal.ensures ∙ c.if-equal.true)

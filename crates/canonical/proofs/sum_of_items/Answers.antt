@@ -25,5 +25,6 @@ loop-k-preserved c = let a = c.args in
     (omega arith, l.invariant.1, c.sum-next.ensures ∙ ap₂ bit_xor l.invariant.2 (c.set_in.ensures ∙ ap (set_in a.sets.now) c.number_at-i.ensures) ∙ items_more (set_in a.sets.now) (item_at a.r.now) l.k)
 
 pub returns : goal.returns
-returns c = let a = c.args in
-    c.loop-k.invariant.2 ∙ ap (λ (j : ℕ). xor_all (set_in a.sets.now) (listed (item_at a.r.now) j)) ((let it : c.loop-k.k ≡ item_count c.args.r.now = omega arith in it))
+returns c = let done : c.loop-k.k ≡ item_count c.args.r.now = omega arith in
+    let a = c.args in
+    c.loop-k.invariant.2 ∙ ap (λ (j : ℕ). xor_all (set_in a.sets.now) (listed (item_at a.r.now) j)) done

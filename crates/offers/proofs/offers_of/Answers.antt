@@ -20,9 +20,10 @@ unfolding lists_of
 loop-w-init c = (search rules, adds_nothing c.args.best.now c.args.ready.now)
 
 pub loop-w-preserved : goal.loop-w-preserved
-loop-w-preserved c = let a = c.args in
+loop-w-preserved c = let words : Below 64 c.args.users = λ i. let f : Fits w64 (get_or c.args.users i 0) = search rules in f.fits in
+    let a = c.args in
     let f : ℕ → List ℕ = λ i. key_offers (switches a.rules) (value a.known.now) (get_or a.keys.now i 0) i in
-    (omega arith, adds_as (lists_word f a.users ((let it : Below 64 c.args.users = λ i. let f : Fits w64 (get_or c.args.users i 0) = search rules in f.fits in it)) c.loop-w.w) (adds_then c.loop-w.invariant.1 c.offers_of_word.ensures))
+    (omega arith, adds_as (lists_word f a.users words c.loop-w.w) (adds_then c.loop-w.invariant.1 c.offers_of_word.ensures))
 
 pub returns : goal.returns
 returns c = let a = c.args in

@@ -8,8 +8,7 @@ use native.Mathlib.Omega.{arith}
 use lib.Dec.{leb, ltb}
 use borrow.Author.Tests.{lt-ltb, le-ltb, le-leb, lt-leb}
 use Rattle.start.specs.Inner.State.{public_key}
-use Rattle.start.proofs.is_public.Statement.{statement}
-use Rattle.start.proofs.is_public.Tie as tie
+use Rattle.start.proofs.is_public.Goals as goal
 
 atom_key : (k : ℕ) → k / 2 ^ 32 ≡ 1 → ltb (k % 2 ^ 32) 256 ≡ public_key k
 atom_key k p =
@@ -24,11 +23,8 @@ other_key k n =
     by_cases (dec_lt k (2 ^ 32)) (λ h. sym (ap (λ (b : Bool). b && ltb k (2 ^ 32 + 256)) (lt-leb (2 ^ 32) k h)))
     (λ h. sym (ap₂ ◌&&◌ (le-leb (2 ^ 32) k (omega arith)) (le-ltb k (2 ^ 32 + 256) (omega arith))))
 
-returns : tie.Need-returns
-returns c = atom_key c.before.args.key (omega (arith, c.if1.true))
+pub returns-then-key-eq1 : goal.returns-then-key-eq1
+returns-then-key-eq1 c = atom_key c.args.key (omega (arith, c.if-key-eq1.true))
 
-returns-2 : tie.Need-returns-2
-returns-2 c = other_key c.before.args.key (λ p. omega (arith, c.if1.false, p))
-
-pub is_public_spec : {M : Type 1} → statement M
-is_public_spec = tie.close (tie.spec returns returns-2)
+pub returns : goal.returns
+returns c = other_key c.args.key (λ p. omega (arith, c.if-key-eq1.false, p))
