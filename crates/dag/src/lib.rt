@@ -12,7 +12,7 @@ pub mod sheet;
 pub use faults::LONGEST;
 
 // Document 01's ten refusals, document 02's wrong half, and none.
-#[derive(Drop)]
+#[derive(Clone, Copy)]
 pub enum Refusal {
     Nothing,
     NoSheet,

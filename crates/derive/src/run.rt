@@ -18,7 +18,7 @@ use knowledge::lines;
 use offers::{next, users};
 
 // How a run ends.
-#[derive(Drop)]
+#[derive(Clone, Copy)]
 pub enum Verdict {
     Derivable,
     Underivable,

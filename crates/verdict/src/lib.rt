@@ -228,9 +228,8 @@ fn number(a: Answer) -> u32
     }
 }
 
-// The same for callers in C, on numbers and byte buffers.
-#[unsafe(no_mangle)]
-pub extern "C" fn zuwendryk_verdict(sheet: &[u8], cut: u32, budget: u32, buffer: &mut [u8]) -> u32
+// The same on numbers and byte buffers. `verdict_c` exports this function and the three below it for callers in C.
+pub fn zuwendryk_verdict(sheet: &[u8], cut: u32, budget: u32, buffer: &mut [u8]) -> u32
     ensures answer { result ≡ answer_of every full_limit sheet.now cut budget (length buffer.old) }
     ensures bytes { buffer.new ≡ buffer_of every full_limit sheet.now cut budget buffer.old }
     ensures demands { Demanded every full_limit sheet.now cut budget buffer.old buffer.new result }
@@ -240,8 +239,7 @@ pub extern "C" fn zuwendryk_verdict(sheet: &[u8], cut: u32, budget: u32, buffer:
 }
 
 // The same by the rules that a byte of eight switches says: the lowest bit is for rule 1, and every value is good.
-#[unsafe(no_mangle)]
-pub extern "C" fn zuwendryk_limited_verdict(
+pub fn zuwendryk_limited_verdict(
     sheet: &[u8],
     cut: u32,
     budget: u32,
@@ -257,13 +255,7 @@ pub extern "C" fn zuwendryk_limited_verdict(
 }
 
 // The verdict while a planner types. A budget over 64 is refused; with any other, answer and bytes are those of the full call.
-#[unsafe(no_mangle)]
-pub extern "C" fn zuwendryk_quick_verdict(
-    sheet: &[u8],
-    cut: u32,
-    budget: u32,
-    buffer: &mut [u8],
-) -> u32
+pub fn zuwendryk_quick_verdict(sheet: &[u8], cut: u32, budget: u32, buffer: &mut [u8]) -> u32
     ensures answer { result ≡ answer_of every quick_limit sheet.now cut budget (length buffer.old) }
     ensures bytes { buffer.new ≡ buffer_of every quick_limit sheet.now cut budget buffer.old }
     ensures demands { Demanded every quick_limit sheet.now cut budget buffer.old buffer.new result }
@@ -275,8 +267,7 @@ pub extern "C" fn zuwendryk_quick_verdict(
 }
 
 // Is this a good sheet? For callers in C: the number of the refusal, 1 to 7 or 12, or 0.
-#[unsafe(no_mangle)]
-pub extern "C" fn zuwendryk_validate(sheet: &[u8]) -> u32
+pub fn zuwendryk_validate(sheet: &[u8]) -> u32
     ensures { result ≡ refusal sheet.now }
 {
     dag::code(dag::validate(sheet))
