@@ -1,0 +1,12 @@
+-- `line::text` meets its contract. The loop's invariant: the first i bytes of the word stand from `at` on.
+use mathlib.Core.Path.{◌≡◌}
+use Prim.Native.Nat.{◌+◌, ◌-◌, ◌≤◌}
+use lib.ListN.{length}
+use lib.Seq.{paste}
+use Rattle.line.proofs.text.Given as goal
+
+abbrev pub invariant-loop-i : goal.invariant-loop-i
+invariant-loop-i l = (l.i ≤ length l.word) × (l.at + length l.word ≤ length l.initial.out) × (l.out ≡ paste l.initial.out l.at l.word l.i)
+
+abbrev pub decreases-loop-i : goal.decreases-loop-i
+decreases-loop-i l = length l.word - l.i
