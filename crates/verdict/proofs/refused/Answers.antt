@@ -19,12 +19,12 @@ returns-then-trace_len-cut c = let s = c.args in
 
 pub returns-then-limit-budget : goal.returns-then-limit-budget
 returns-then-limit-budget c = let s = c.args in
-    refused_budget s.limit s.sheet.now s.cut s.budget s.space (fine (goal.at.returns-then-limit-budget c).Else-code-ne0) (omega (arith, c.trace_len.ensures, c.if-trace_len-cut.false)) c.if-limit-budget.true
+    refused_budget s.limit s.sheet.now s.cut s.budget s.space (fine (goal.at.returns-then-limit-budget c).Else-code-ne0) (omega (arith, c.trace_len.ensures, c.if-trace_len-cut.false)) (omega arith)
 
 pub returns-then-space-budget : goal.returns-then-space-budget
 returns-then-space-budget c = let s = c.args in
-    refused_space s.limit s.sheet.now s.cut s.budget s.space (fine (goal.at.returns-then-space-budget c).Else-code-ne0) (omega (arith, c.trace_len.ensures, c.if-trace_len-cut.false)) (omega (arith, c.if-limit-budget.false)) (omega arith)
+    refused_space s.limit s.sheet.now s.cut s.budget s.space (fine (goal.at.returns-then-space-budget c).Else-code-ne0) (omega (arith, c.trace_len.ensures, c.if-trace_len-cut.false)) (omega arith) (omega arith)
 
 pub returns : goal.returns
 returns c = let s = c.args in
-    accepted s.limit s.sheet.now s.cut s.budget s.space (fine (goal.at.returns c).Else-code-ne0) (omega (arith, c.trace_len.ensures, c.if-trace_len-cut.false)) (omega (arith, c.if-limit-budget.false)) (omega arith)
+    accepted s.limit s.sheet.now s.cut s.budget s.space (fine (goal.at.returns c).Else-code-ne0) (omega (arith, c.trace_len.ensures, c.if-trace_len-cut.false)) (omega arith) (omega arith)
