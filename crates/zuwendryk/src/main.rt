@@ -6,26 +6,28 @@ mod stream;
 mod text;
 
 use dag::LONGEST;
-use libc::{STDERR_FILENO, STDIN_FILENO, STDOUT_FILENO};
 
-fn main() {
+fn main(rt: HostRuntime) {
     let mut input = [0u8; LONGEST + 1];
     let mut text = [0u8; 300000];
-    let read = stream::read_all(STDIN_FILENO, &mut input);
+    let mut error = 0;
+    let read = stream::read_all(&mut rt.stdin(), &rt, &mut input, &mut error);
     if read.failed {
-        os::fail(b"zuwendryk: standard input");
+        stream::fail(&mut rt.stderr(), b"zuwendryk: standard input", error);
         return;
     }
     let len = read.count;
     let end = card::card(&input[..len], &mut text);
-    if !stream::write_all(STDOUT_FILENO, &text[..end]) {
-        os::fail(b"zuwendryk: standard output");
+    if !stream::write_all(&mut rt.stdout(), &rt, &text[..end], &mut error) {
+        stream::fail(&mut rt.stderr(), b"zuwendryk: standard output", error);
         return;
     }
     if text::is_text(&input[..len]) {
         stream::write_all(
-            STDERR_FILENO,
+            &mut rt.stderr(),
+            &rt,
             b"zuwendryk: the input looks like text; a text sheet is assembled first: sheet assemble FILE -o SHEET\n",
+            &mut error,
         );
     }
 }

@@ -9,9 +9,7 @@ use lib.Seq.{take_all}
 use Rattle.dag.specs.Sheet.{letters}
 use Rattle.dag.specs.Refusal.{equal}
 use Rattle.dag.proofs.Laws.Refusal.{equal_same, equal_differs}
-use borrow.Author.Rules.{rules}
-use Rattle.zuwendryk.proofs.text.has_letters.Statement.{statement}
-use Rattle.zuwendryk.proofs.text.has_letters.Tie as tie
+use Rattle.zuwendryk.proofs.text.has_letters.Goals as goal
 
 too_short : (s : List ℕ) → length s < 4 → false ≡ equal (take 4 s) letters
 too_short s h = sym (equal_differs (take 4 s) letters (λ p. four (ap length (sym (take_all 4 s (omega arith)) ∙ p))))
@@ -24,37 +22,8 @@ the_test : (r : Bool) (xs ys : List ℕ) → (r ≡ true → xs ≡ ys) → (xs 
 the_test true xs ys p q = sym (equal_same xs ys (p refl))
 the_test false xs ys p q = sym (equal_differs xs ys (λ e. false≢true (q e)))
 
-returns : tie.Need-returns
-returns c = too_short c.before.before.args.s.now c.if1.true
+pub returns-then-s-lt4 : goal.returns-then-s-lt4
+returns-then-s-lt4 c = too_short c.args.s.now c.if-s-lt4.true
 
-sub_same : tie.Need-overflow-sub-same
-sub_same c = search rules
-
-part-same-start : tie.Need-slice-bounds-same-start
-part-same-start c = search rules
-
-part-same-end : tie.Need-slice-bounds-same-end
-part-same-end c = search rules
-
-slice-aggregate-same : tie.Need-slice-aggregate-same
-slice-aggregate-same c = search rules
-
-same-requires : tie.Need-same-requires
-same-requires c κs = search rules
-
-returns-2 : tie.Need-returns-2
-returns-2 c =
-    let s = c.before.before.before.before.before.args.s.now in
-    the_test c.same.result (take 4 s) letters c.same.ensures.0 c.same.ensures.1
-
-pub has_letters_spec : {M : Type 1} → statement M
-has_letters_spec =
-    tie.close
-    (tie.spec
-    returns
-    sub_same
-    part-same-start
-    part-same-end
-    slice-aggregate-same
-    same-requires
-    returns-2)
+pub returns : goal.returns
+returns c = the_test c.same.result (take 4 c.args.s.now) letters c.same.ensures.0 c.same.ensures.1
