@@ -1,5 +1,6 @@
 // Standard input and output, read and written whole. A call that a signal interrupts, and one at a stream that isn't ready, is made again.
-ghost use Rattle.std.specs.Prelude.{◌≡◌, ◌≤◌, true, length, pos, MatchOption};
+ghost use Rattle.std.specs.Prelude.{◌≡◌, ◌≤◌, ◌<◌, true, false, length, take, pos, MatchOption};
+ghost use Rattle.std.specs.Io.KnownBytes.{Appends, Consumes, IsAtEnd};
 ghost use Rattle.std.specs.IoError.{raw_os_error};
 ghost use Rattle.zuwendryk.specs.Stream.{passing, IsPrefixLen};
 
@@ -55,7 +56,10 @@ fn number(error: &Error) -> i32
 
 // Makes one call to read. Where it fails, error becomes the number that says why, and else stays.
 fn try_read<R: Read>(from: &mut R, buf: &mut [u8], error: &mut i32) -> Part
-    ensures { result.count ≤ length buf.old }
+    ensures within { result.count ≤ length buf.old }
+    ensures failed { result.failed ≡ true → result.count ≡ 0 }
+    ensures bytes { Consumes (R.remaining from.old) (R.remaining from.new) (take result.count buf.new) }
+    ensures end { result.failed ≡ false → result.count ≡ 0 → 0 < length buf.old → IsAtEnd (R.remaining from.new) }
 {
     match from.read(buf) {
         Ok(count) => Part {
@@ -74,7 +78,9 @@ fn try_read<R: Read>(from: &mut R, buf: &mut [u8], error: &mut i32) -> Part
 
 // Makes one call to write. Where it fails, error becomes the number that says why, and else stays.
 fn try_write<W: Write>(to: &mut W, buf: &[u8], error: &mut i32) -> Part
-    ensures { result.count ≤ length buf.now }
+    ensures within { result.count ≤ length buf.now }
+    ensures failed { result.failed ≡ true → result.count ≡ 0 }
+    ensures bytes { Appends (W.contents to.old) (W.contents to.new) (take result.count buf.now) }
 {
     match to.write(buf) {
         Ok(count) => Part {
@@ -93,7 +99,10 @@ fn try_write<W: Write>(to: &mut W, buf: &[u8], error: &mut i32) -> Part
 
 // Reads once: 0 bytes is the input's end. Where it failed, error says why.
 fn read_some<R: Read>(from: &mut R, clock: &impl Clock, buf: &mut [u8], error: &mut i32) -> Part
-    ensures { result.count ≤ length buf.old }
+    ensures within { result.count ≤ length buf.old }
+    ensures failed { result.failed ≡ true → result.count ≡ 0 }
+    ensures bytes { Consumes (R.remaining from.old) (R.remaining from.new) (take result.count buf.new) }
+    ensures end { result.failed ≡ false → result.count ≡ 0 → 0 < length buf.old → IsAtEnd (R.remaining from.new) }
 {
     let mut tries = TRIES;
     let mut part = try_read(from, buf, error);
@@ -107,7 +116,9 @@ fn read_some<R: Read>(from: &mut R, clock: &impl Clock, buf: &mut [u8], error: &
 
 // Writes once. Where it failed, error says why.
 fn write_some<W: Write>(to: &mut W, clock: &impl Clock, buf: &[u8], error: &mut i32) -> Part
-    ensures { result.count ≤ length buf.now }
+    ensures within { result.count ≤ length buf.now }
+    ensures failed { result.failed ≡ true → result.count ≡ 0 }
+    ensures bytes { Appends (W.contents to.old) (W.contents to.new) (take result.count buf.now) }
 {
     let mut tries = TRIES;
     let mut part = try_write(to, buf, error);
@@ -122,7 +133,9 @@ fn write_some<W: Write>(to: &mut W, clock: &impl Clock, buf: &[u8], error: &mut 
 // Reads until the input ends, the buffer is full or a read fails. The count is that of the bytes at the front of buf. Where a read failed, error
 // says why.
 pub fn read_all<R: Read>(from: &mut R, clock: &impl Clock, buf: &mut [u8], error: &mut i32) -> Part
-    ensures { IsPrefixLen result.count buf.new }
+    ensures prefix { IsPrefixLen result.count buf.new }
+    ensures bytes { Consumes (R.remaining from.old) (R.remaining from.new) (take result.count buf.new) }
+    ensures end { result.failed ≡ false → result.count < length buf.new → IsAtEnd (R.remaining from.new) }
 {
     let mut done: usize = 0;
     while done < buf.len() {
@@ -147,10 +160,11 @@ pub fn read_all<R: Read>(from: &mut R, clock: &impl Clock, buf: &mut [u8], error
     }
 }
 
-// Writes until all of buf is taken or a write fails or takes nothing; answers whether all is taken. Where a write failed, error says why. Of which
-// bytes were no contract can speak.
+// Writes until all of buf is taken or a write fails or takes nothing; answers whether all is taken. Where a write failed, error says why. Which bytes
+// the system's streams give and take no contract can say.
 pub fn write_all<W: Write>(to: &mut W, clock: &impl Clock, buf: &[u8], error: &mut i32) -> bool
-    ensures { length buf.now ≡ 0 → result ≡ true }
+    ensures none { length buf.now ≡ 0 → result ≡ true }
+    ensures bytes { result ≡ true → Appends (W.contents to.old) (W.contents to.new) buf.now }
 {
     let mut done: usize = 0;
     while done < buf.len() {
