@@ -1,5 +1,6 @@
 // Standard input and output, read and written whole. A call that a signal interrupts, and one at a stream that isn't ready, is made again.
-ghost use Rattle.std.specs.Prelude.{◌≡◌, ◌≤◌, ◌<◌, true, false, length, take, pos, MatchOption};
+ghost use Rattle.std.specs.Prelude.{◌≡◌, ℕ, ◌≤◌, ◌<◌, true, false, length, take, drop, pos, MatchOption};
+ghost use Rattle.std.specs.Io.{StartsWith};
 ghost use Rattle.std.specs.Io.KnownBytes.{Appends, Consumes, IsAtEnd};
 ghost use Rattle.std.specs.IoError.{raw_os_error};
 ghost use Rattle.zuwendryk.specs.Stream.{passing, IsPrefixLen};
@@ -179,7 +180,9 @@ pub fn write_all<W: Write>(to: &mut W, clock: &impl Clock, buf: &[u8], error: &m
 
 // Where the number of an error begins in what std writes of it, or the end.
 fn text_end(text: &[u8]) -> usize
-    ensures { IsPrefixLen result text.now }
+    ensures prefix { IsPrefixLen result text.now }
+    ensures found { result < length text.now → StartsWith (drop result text.now) NUMBER.now }
+    ensures first { (k : ℕ) → k < result → ¬ StartsWith (drop k text.now) NUMBER.now }
 {
     let mut end: usize = 0;
     while end < text.len() && !text[end..].starts_with(NUMBER) {
