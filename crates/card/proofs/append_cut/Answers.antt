@@ -1,7 +1,7 @@
 -- `card::append_cut` meets its contract: by the number of the verdict.
 use mathlib.Core.Path.{◌≡◌, refl, sym, ap, ◌∙◌}
 use mathlib.Core.Bool.{not, false≢true}
-use Prim.Native.Nat.{◌+◌, ◌-◌, ◌*◌}
+use Prim.Native.Nat.{◌+◌, ◌-◌, ◌*◌, ◌≤◌, ◌<◌}
 use native.Mathlib.Omega.{arith}
 use lib.Count.{ones}
 use lib.ListN.{length}
@@ -25,7 +25,7 @@ pub append_steps-end-requires : goal.append_steps-end-requires
 append_steps-end-requires c = let s = c.args in
     let p = c.requires in
     let v = c.zuwendryk_verdict-answer.ensures.answer in
-    let h = c.if-answer-lt2000.true in
+    let h : c.zuwendryk_verdict-answer.result < 2000 = omega arith in
     let l = c.reached_line-start.ensures in
     let m = made_steps s.sheet.now s.cut s.buffer.now p.0 p.1 p.2 v h refl in
     let f = few s.sheet.now s.cut s.buffer.now p.0 p.1 p.2 in
@@ -35,12 +35,12 @@ pub returns-then-answer-lt2000 : goal.returns-then-answer-lt2000
 returns-then-answer-lt2000 c = let s = c.args in
     let p = c.requires in
     let v = c.zuwendryk_verdict-answer.ensures in
-    let h = c.if-answer-lt2000.true in record { text = shown_reached s.sheet.now s.cut s.buffer.now p.0 p.1 p.2 v.answer h refl v.bytes c.reached_line-start.ensures c.append_steps-end.ensures; short = (λ e. absurd (false≢true e)); more = sym (ap not (reached_is s.sheet.now s.cut s.buffer.now p.0 p.1 p.2 v.answer h)); size = kept (goal.at.returns-then-answer-lt2000 c).After-slice_known-3-1 }
+    let h : c.zuwendryk_verdict-answer.result < 2000 = omega arith in record { text = shown_reached s.sheet.now s.cut s.buffer.now p.0 p.1 p.2 v.answer h refl v.bytes c.reached_line-start.ensures c.append_steps-end.ensures; short = (λ e. absurd (false≢true e)); more = sym (ap not (reached_is s.sheet.now s.cut s.buffer.now p.0 p.1 p.2 v.answer h)); size = kept (goal.at.returns-then-answer-lt2000 c).After-slice_known-3-1 }
 
 pub returns : goal.returns
 returns c = let s = c.args in
     let p = c.requires in
     let v = c.zuwendryk_verdict-answer.ensures in
-    let h = c.if-answer-lt2000.false in
+    let h : 2000 ≤ c.zuwendryk_verdict-answer.result = omega arith in
     let n = c.count-known in
     let l = c.out_line-end.ensures in record { text = shown_out s.sheet.now s.cut s.buffer.now p.0 p.1 p.2 v.answer h v.bytes (n.ensures ∙ ap ones c.read.ensures) (kept (goal.at.returns c).After-slice_known-3-1) l; short = (λ e. omega (arith, l.place, pair_length cut_word s.cut out_of_reach_word n.result (omega arith) (omega arith) (omega arith))); more = sym (ap not (out_is s.sheet.now s.cut s.buffer.now p.0 p.1 p.2 v.answer h)); size = kept (goal.at.returns c).After-slice_known-3-1 }

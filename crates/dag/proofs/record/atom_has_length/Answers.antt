@@ -4,7 +4,7 @@ use Rattle.dag.proofs.Laws.Record.{fits_short, fits_long}
 use Rattle.dag.proofs.record.atom_has_length.Goals as goal
 
 pub returns-then-len-eq3 : goal.returns-then-len-eq3
-returns-then-len-eq3 c = fits_short c.args.len (omega (arith, c.if-len-eq3.true))
+returns-then-len-eq3 c = fits_short c.args.len (omega arith)
 
 pub returns : goal.returns
-returns c = fits_long c.args.len (λ p. omega (arith, c.if-len-eq3.false, p))
+returns c = fits_long c.args.len (λ p. omega (arith, p))

@@ -40,8 +40,8 @@ returns-then-is_half c = let s = c.args in
 
 pub returns-then-kind-eq7 : goal.returns-then-kind-eq7
 returns-then-kind-eq7 c = let s = c.args in
-    fits_lock s.kind s.len (omega (arith, c.if-kind-eq7.true, other c.before))
+    fits_lock s.kind s.len (omega (arith, other c.before))
 
 pub returns : goal.returns
 returns c = let s = c.args in
-    fits_none s.kind s.len (omega (arith, c.if-kind-eq7.false, other c.before))
+    fits_none s.kind s.len (omega (arith, other c.before))

@@ -77,7 +77,7 @@ shape_of-out-then-x-eq-NO_STEP c = c.loop-users.invariant.0.long
 pub returns-then-x-eq-NO_STEP : goal.returns-then-x-eq-NO_STEP
 returns-then-x-eq-NO_STEP c = let elements : Bytes c.args.s.now = λ j. (c.type_inv.s j).fits in
     λ k p l. let z = c.loop-users.invariant.0 in
-    along_underivable z (c.loop-users.invariant.1 k p l) elements (c.holds.ensures z.words) c.if-holds.false c.next-x.ensures c.if-x-eq-NO_STEP.true c.end_as-then-x-eq-NO_STEP.ensures
+    along_underivable z (c.loop-users.invariant.1 k p l) elements (c.holds.ensures z.words) c.if-holds.false c.next-x.ensures (omega arith) c.end_as-then-x-eq-NO_STEP.ensures
 
 pub shape_of-out-then-made-budget : goal.shape_of-out-then-made-budget
 shape_of-out-then-made-budget c = c.loop-users.invariant.0.long
@@ -85,7 +85,7 @@ shape_of-out-then-made-budget c = c.loop-users.invariant.0.long
 pub returns-then-made-budget : goal.returns-then-made-budget
 returns-then-made-budget c = let elements : Bytes c.args.s.now = λ j. (c.type_inv.s j).fits in
     λ k p l. let z = c.loop-users.invariant.0 in
-    along_exhausted z (c.loop-users.invariant.1 k p l) elements (c.holds.ensures z.words) c.if-holds.false c.next-x.ensures c.if-x-eq-NO_STEP.false c.if-made-budget.true c.end_as-then-made-budget.ensures
+    along_exhausted z (c.loop-users.invariant.1 k p l) elements (c.holds.ensures z.words) c.if-holds.false c.next-x.ensures (λ q. omega (arith, q)) (omega arith) c.end_as-then-made-budget.ensures
 
 pub overflow_mul-from : goal.overflow_mul-from
 overflow_mul-from c = omega (arith, c.loop-users.invariant.0.within, c.loop-users.invariant.0.limit)
@@ -102,7 +102,7 @@ slice_bounds-make-start c = let space : c.args.front + 40 * c.loop-users.made �
     omega (arith, space)
 
 pub make-requires : goal.make-requires
-make-requires c = let less : c.loop-users.made < c.args.budget = omega (arith, c.if-made-budget.false, c.loop-users.invariant.0.within) in
+make-requires c = let less : c.loop-users.made < c.args.budget = omega (arith, c.loop-users.invariant.0.within) in
     let next_place : c.args.front + 40 * c.loop-users.made + 40 ≤ length c.loop-users.out = let z = c.loop-users.invariant.0 in omega (arith, less, z.long, z.space) in
     let z = c.loop-users.invariant.0 in
     (z.sizes, z.size, part_room c.loop-users.out _ 40 (omega (arith, next_place)))
@@ -114,12 +114,12 @@ pub overflow_add-made : goal.overflow_add-made
 overflow_add-made c = omega (arith, c.loop-users.invariant.0.within, c.loop-users.invariant.0.limit)
 
 pub loop-users-smaller : goal.loop-users-smaller
-loop-users-smaller c = let less : c.loop-users.made < c.args.budget = omega (arith, c.if-made-budget.false, c.loop-users.invariant.0.within) in
+loop-users-smaller c = let less : c.loop-users.made < c.args.budget = omega (arith, c.loop-users.invariant.0.within) in
     omega (arith, less)
 
 pub loop-users-preserved : goal.loop-users-preserved
 loop-users-preserved c = let elements : Bytes c.args.s.now = λ j. (c.type_inv.s j).fits in
-    let less : c.loop-users.made < c.args.budget = omega (arith, c.if-made-budget.false, c.loop-users.invariant.0.within) in
+    let less : c.loop-users.made < c.args.budget = omega (arith, c.loop-users.invariant.0.within) in
     let next_place : c.args.front + 40 * c.loop-users.made + 40 ≤ length c.loop-users.out = let z = c.loop-users.invariant.0 in omega (arith, less, z.long, z.space) in
     let z = c.loop-users.invariant.0 in
     let t = step_in c.args.keys.now c.loop-users.used c.next-x.result in
@@ -139,6 +139,6 @@ loop-users-preserved c = let elements : Bytes c.args.s.now = λ j. (c.type_inv.s
         within = omega (arith, less);
         long = ap length bytes ∙ part_length c.loop-users.out from t next_place ∙ z.long;
       },
-      λ k p l. along_step z (c.loop-users.invariant.1 k p l) elements (c.holds.ensures z.words) c.if-holds.false c.next-x.ensures c.if-x-eq-NO_STEP.false less bytes c.make.ensures.lines
+      λ k p l. along_step z (c.loop-users.invariant.1 k p l) elements (c.holds.ensures z.words) c.if-holds.false c.next-x.ensures (λ q. omega (arith, q)) less bytes c.make.ensures.lines
           c.learn.ensures.known.1 c.learn.ensures.offers,
     )

@@ -6,7 +6,7 @@ use Rattle.offers.proofs.table.lower.Goals as goal
 
 pub returns-then-x-best : goal.returns-then-x-best
 returns-then-x-best c = λ xs t. let p = c.put.ensures t.words in
-    table_lower t c.args.head c.args.x (search rules) c.requires c.put.new.s (omega (arith, c.if-x-best.true, c.requires)) p.0 p.1
+    table_lower t c.args.head c.args.x (search rules) c.requires c.put.new.s (omega (arith, c.requires)) p.0 p.1
 
 pub returns-else-x-best : goal.returns-else-x-best
-returns-else-x-best c = λ xs t. table_keep t c.args.head c.args.x (search rules) c.requires (omega (arith, c.if-x-best.false))
+returns-else-x-best c = λ xs t. table_keep t c.args.head c.args.x (search rules) c.requires (omega arith)

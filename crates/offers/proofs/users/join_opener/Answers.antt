@@ -5,12 +5,12 @@ use Rattle.offers.proofs.Laws.Users.{joined_none, joined_as, opened_none, opened
 use Rattle.offers.proofs.users.join_opener.Goals as goal
 
 pub returns-then-opener-lt256 : goal.returns-then-opener-lt256
-returns-then-opener-lt256 c = joined_as (λ x l. opened_by c.args.key c.kind.ensures c.if-kind-eq7.true c.opener-opener.ensures x) c.join.ensures
+returns-then-opener-lt256 c = joined_as (λ x l. opened_by c.args.key c.kind.ensures (omega arith) c.opener-opener.ensures x) c.join.ensures
 
 pub returns-else-opener-lt256 : goal.returns-else-opener-lt256
 returns-else-opener-lt256 c = let a = c.args in
-    joined_none (key_opened a.key) a.i a.users.now c.requires (λ x l. opened_past a.key c.kind.ensures c.if-kind-eq7.true c.opener-opener.ensures (omega (arith, c.if-opener-lt256.false)) x l)
+    joined_none (key_opened a.key) a.i a.users.now c.requires (λ x l. opened_past a.key c.kind.ensures (omega arith) c.opener-opener.ensures (omega arith) x l)
 
 pub returns-else-kind-eq7 : goal.returns-else-kind-eq7
 returns-else-kind-eq7 c = let a = c.args in
-    joined_none (key_opened a.key) a.i a.users.now c.requires (λ x l. opened_none a.key c.kind.ensures c.if-kind-eq7.false x)
+    joined_none (key_opened a.key) a.i a.users.now c.requires (λ x l. opened_none a.key c.kind.ensures (λ p. omega (arith, p)) x)
