@@ -17,7 +17,7 @@ use Rattle.bitset.specs.Set.{member, leading}
 use Rattle.bitset.proofs.Laws.Member.{member_empty, member_single, member_le, member_sum, xor_false}
 use Rattle.bitset.proofs.Laws.Leading.{leading_member, leading_top}
 use Rattle.bitset.proofs.Laws.Sums.{sum_cancel_right, sum_empty_same, sum_move}
-use Rattle.deduction.specs.Term.{Term, ◌⊕◌, sum_of, ◌≈◌, unit, same, flip, then}
+use Rattle.deduction.specs.Term.{Term, ◌⊕◌, sum_of, ◌≈◌, unit, flip, then}
 use Rattle.deduction.specs.Derivation.{Holds, Derivable}
 use Rattle.deduction.specs.Setting.{Setting}
 use Rattle.deduction.specs.Entry.{Entry, term_at, Downward}

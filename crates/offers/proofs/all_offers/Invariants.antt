@@ -4,7 +4,6 @@ use Rattle.bitset.specs.Words.{value}
 use Rattle.deduction.specs.Setting.{switches}
 use Rattle.offers.specs.Inner.Offers.{table_offers}
 use Rattle.offers.specs.Inner.Table.{Adds}
-use borrow.Author.Rules.{rules}
 use Rattle.offers.proofs.all_offers.Given as goal
 
 abbrev pub invariant-loop-i : goal.invariant-loop-i

@@ -8,7 +8,6 @@ use Rattle.deduction.specs.Setting.{switches}
 use borrow.Author.Tests.{eq-eqb, ne_eqb}
 use Rattle.offers.specs.Inner.Offers.{key_offers}
 use Rattle.offers.proofs.Laws.Table.{adds_as, adds_none}
-use borrow.Author.Rules.{rules}
 use Rattle.offers.proofs.head_offers.Goals as goal
 
 pub returns-then-reps-i : goal.returns-then-reps-i

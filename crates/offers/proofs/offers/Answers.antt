@@ -4,7 +4,6 @@ use Rattle.bitset.specs.Words.{value}
 use Rattle.deduction.specs.Setting.{switches}
 use Rattle.offers.proofs.Laws.Table.{adds_as}
 use Rattle.offers.proofs.Laws.Gives.{offers_known, offers_open}
-use borrow.Author.Rules.{rules}
 use Rattle.offers.proofs.offers.Goals as goal
 
 pub returns-then-holds : goal.returns-then-holds

@@ -4,7 +4,6 @@ use Rattle.bitset.specs.Words.{value}
 use Rattle.deduction.specs.Setting.{switches}
 use Rattle.offers.specs.Inner.Offers.{set_offers}
 use Rattle.offers.specs.Inner.Table.{Adds}
-use borrow.Author.Rules.{rules}
 use Rattle.offers.proofs.offers_of.Given as goal
 
 abbrev pub invariant-loop-w : goal.invariant-loop-w

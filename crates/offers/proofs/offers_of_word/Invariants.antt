@@ -4,7 +4,6 @@ use Rattle.bitset.proofs.Laws.Bits.{Left}
 use Rattle.deduction.specs.Setting.{switches}
 use Rattle.offers.specs.Inner.Offers.{word_offers}
 use Rattle.offers.proofs.Laws.Table.{Adding}
-use borrow.Author.Rules.{rules}
 use Rattle.offers.proofs.offers_of_word.Given as goal
 
 abbrev pub invariant-loop-left : goal.invariant-loop-left

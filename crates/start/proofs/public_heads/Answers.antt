@@ -1,6 +1,5 @@
 -- `start::public_heads` meets its contract. The loop's invariant: the list has, behind what stood in it, the public atoms among the entries so far.
 use mathlib.Core.Path.{◌≡◌, sym, ap, ◌∙◌}
-use mathlib.Core.Logic.{⊎_elim}
 use mathlib.Core.Bool.{◌&&◌}
 use mathlib.Core.List.{◌++◌}
 use Prim.Native.Nat.{ℕ, ◌+◌, ◌<◌}

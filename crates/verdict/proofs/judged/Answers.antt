@@ -1,7 +1,6 @@
 -- `verdict::judged` meets its contract: the number and the buffer of what was decided, by its verdict.
 use mathlib.Core.Path.{sym}
 use lib.ListN.{length}
-use borrow.Author.Rules.{rules}
 use Rattle.deduction.specs.Setting.{switches}
 use Rattle.derive.specs.declared.run.Verdict.TheVariants.{Derivable, Underivable, Exhausted}
 use Rattle.verdict.specs.Refused.{full_limit}

@@ -10,7 +10,6 @@ use Rattle.dag.specs.Record.{entry_at}
 use Rattle.dag.proofs.Laws.Good.{good}
 use Rattle.start.specs.Start.{start_heads}
 use Rattle.verdict.proofs.Laws.Decide.{decided}
-use borrow.Author.Rules.{rules}
 use Rattle.verdict.proofs.run_from.Goals as goal
 use Rattle.verdict.proofs.run_from.Goals.{After-goal-goal}
 

@@ -1,6 +1,5 @@
 -- `verdict::zuwendryk_limited_verdict` meets its contract: the number of the verdict's answer.
 use mathlib.Core.Path.{sym, ◌∙◌, subst}
-use borrow.Author.Rules.{rules}
 use Rattle.deduction.specs.Setting.{switches}
 use Rattle.verdict.specs.Refused.{full_limit}
 use Rattle.verdict.specs.Demands.{Demanded}

@@ -1,7 +1,6 @@
 -- `derive::run::run` meets its contract. The loop's invariant: what is safe, what is done, and the run that remains (`Safe`, `Along`).
 use mathlib.Core.Path.{◌≡◌}
 use Prim.Native.Nat.{◌-◌}
-use borrow.Author.Rules.{rules}
 use Rattle.bitset.specs.Words.{value}
 use Rattle.deduction.specs.Setting.{switches}
 use Rattle.deduction.specs.Elimination.{Knowledge}

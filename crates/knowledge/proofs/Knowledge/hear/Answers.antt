@@ -7,7 +7,7 @@ use mir.Syntax.{w64}
 use mir.Val.{Fits}
 use lib.Dec.{eqb}
 use lib.ListN.{get_or}
-use borrow.Author.Tests.{eq-eqb, not-true, not-false}
+use borrow.Author.Tests.{eq-eqb}
 use Rattle.bitset.specs.Set.{member}
 use Rattle.bitset.specs.Words.{value}
 use Rattle.knowledge.proofs.Laws.Learn.{stored_none, stored_row, room_same, room_more, room_place}

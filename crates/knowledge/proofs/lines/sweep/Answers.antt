@@ -4,7 +4,6 @@ use lib.Bits.{bit_xor}
 use Rattle.bitset.specs.Words.{value}
 use Rattle.knowledge.specs.Inner.Lines.{set_in}
 use Rattle.knowledge.proofs.Laws.Lines.{kept_learnt, kept_idle}
-use borrow.Author.Tests.{not-true, not-false}
 use Rattle.knowledge.proofs.lines.sweep.Goals as goal
 
 pub returns-then-not-is_empty : goal.returns-then-not-is_empty

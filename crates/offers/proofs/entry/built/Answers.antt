@@ -4,7 +4,6 @@ use Rattle.bitset.specs.Words.{value}
 use Rattle.deduction.specs.Setting.{switches}
 use Rattle.offers.proofs.Laws.Table.{adds_as, adds_none}
 use Rattle.offers.proofs.Laws.Gives.{built_by_le, built_rule, built_none}
-use borrow.Author.Rules.{rules}
 use Rattle.offers.proofs.entry.built.Goals as goal
 
 pub offer_if-requires : goal.offer_if-requires

@@ -3,7 +3,6 @@ use Rattle.bitset.specs.Words.{value}
 use Rattle.deduction.specs.Setting.{switches}
 use Rattle.offers.proofs.Laws.Table.{adds_then, adds_as, adds_none}
 use Rattle.offers.proofs.Laws.Gives.{gives_pair, gives_enc, gives_lock, gives_none}
-use borrow.Author.Rules.{rules}
 use Rattle.offers.proofs.entry.opened.Goals as goal
 
 pub returns-then-kind-eq2 : goal.returns-then-kind-eq2

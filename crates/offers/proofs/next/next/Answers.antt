@@ -4,7 +4,6 @@ use native.Mathlib.Omega.{arith}
 use Rattle.bitset.specs.Words.{value}
 use Rattle.deduction.specs.Setting.{switches}
 use Rattle.offers.proofs.Laws.Waiting.{next_none, next_found}
-use borrow.Author.Rules.{rules}
 use Rattle.offers.proofs.next.next.Goals as goal
 
 pub returns-then-head-eq256 : goal.returns-then-head-eq256

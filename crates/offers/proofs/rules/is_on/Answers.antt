@@ -1,6 +1,5 @@
 -- `offers::rules::is_on` meets its contract: the switch is a bit of the byte.
 use mathlib.Core.Path.{sym}
-use borrow.Author.Rules.{rules}
 use Rattle.bitset.specs.Set.{member}
 use Rattle.deduction.proofs.Settings.{switch_bit}
 use Rattle.offers.proofs.rules.is_on.Goals as goal

@@ -2,7 +2,6 @@
 use Rattle.deduction.specs.Setting.{switches}
 use Rattle.offers.proofs.Laws.Table.{adds_as, adds_none}
 use Rattle.offers.proofs.Laws.Gives.{rule_on, rule_off}
-use borrow.Author.Rules.{rules}
 use Rattle.offers.proofs.table.offer.Goals as goal
 
 pub returns-then-is_on : goal.returns-then-is_on

@@ -5,7 +5,6 @@ use mathlib.Core.List.{[]}
 use Rattle.deduction.specs.Setting.{switches}
 use Rattle.deduction.specs.Run.{by_rule}
 use Rattle.offers.proofs.Laws.Table.{adds_as, adds_none}
-use borrow.Author.Rules.{rules}
 use Rattle.offers.proofs.table.offer_if.Goals as goal
 
 pub returns-then-test : goal.returns-then-test

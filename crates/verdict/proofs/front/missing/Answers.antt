@@ -1,6 +1,5 @@
 -- `verdict::front::missing` meets its contract: what is missing at out of reach, and else two empty sets.
 use mathlib.Core.Path.{sym, ◌∙◌}
-use borrow.Author.Rules.{rules}
 use Rattle.bitset.specs.Words.{value}
 use Rattle.deduction.specs.Setting.{switches}
 use Rattle.derive.specs.Inner.Ran.{verdict_of}

@@ -1,6 +1,5 @@
 -- `verdict::front::missing_by` meets its contract: by the switch of the sum rule.
 use mathlib.Core.Path.{sym, ◌∙◌}
-use borrow.Author.Rules.{rules}
 use Rattle.bitset.specs.Words.{value}
 use Rattle.deduction.specs.Setting.{switches}
 use Rattle.verdict.specs.Inner.Decide.{reduced_of}
