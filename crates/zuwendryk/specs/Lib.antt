@@ -1,3 +1,3 @@
--- Reading order: which errors pass and what a read fills, and which inputs look like text.
+-- Reading order: which errors pass, what a read fills and what is written of a failure, and which inputs look like text.
 pub mod Stream
 pub mod Text

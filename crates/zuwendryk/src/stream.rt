@@ -3,7 +3,7 @@ ghost use Rattle.std.specs.Prelude.{◌≡◌, ℕ, ◌≤◌, ◌<◌, true, fa
 ghost use Rattle.std.specs.Io.{StartsWith};
 ghost use Rattle.std.specs.Io.KnownBytes.{Appends, Consumes, IsAtEnd};
 ghost use Rattle.std.specs.IoError.{raw_os_error};
-ghost use Rattle.zuwendryk.specs.Stream.{passing, IsPrefixLen};
+ghost use Rattle.zuwendryk.specs.Stream.{passing, IsPrefixLen, AppendsFront, Tells};
 
 use std::io::{Error, Read, Write};
 use std::thread;
@@ -201,7 +201,9 @@ fn error_text(error: i32, text: &mut [u8]) -> usize
 }
 
 // Writes until all of buf is taken or a write fails or takes nothing. No call is made again.
-fn tell<W: Write>(to: &mut W, buf: &[u8]) {
+fn tell<W: Write>(to: &mut W, buf: &[u8])
+    ensures { AppendsFront (W.contents to.old) (W.contents to.new) buf.now }
+{
     let mut error = 0;
     let mut done: usize = 0;
     while done < buf.len() {
@@ -214,7 +216,9 @@ fn tell<W: Write>(to: &mut W, buf: &[u8]) {
 }
 
 // Writes a line: what failed, a colon and the system's text of the error.
-pub fn fail<W: Write>(to: &mut W, what: &[u8], error: i32) {
+pub fn fail<W: Write>(to: &mut W, what: &[u8], error: i32)
+    ensures { Tells (W.contents to.old) (W.contents to.new) what.now }
+{
     let mut text = [0u8; 128];
     let len = error_text(error, &mut text);
     tell(to, what);
