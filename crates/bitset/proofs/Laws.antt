@@ -9,3 +9,4 @@ pub mod Sums
 pub mod Lowest
 pub mod Union
 pub mod Bits
+pub mod Members

@@ -1,10 +1,9 @@
--- The number of each refusal in documents 01 and 02.
-use Rattle.std.specs.Prelude.{ℕ}
+-- The number of each refusal in documents 01 and 02, and that of what a check answers.
+use Rattle.std.specs.Prelude.{ℕ, Result, Ok, Err}
 use Rattle.dag.specs.declared.Refusal.{Refusal}
-use Rattle.dag.specs.declared.Refusal.TheVariants.{Nothing, NoSheet, BadCount, ShortList, BadPair, BadRecord, Forward, NotListed, PastTheLog, OverBudget, NoSpace, WrongHalf}
+use Rattle.dag.specs.declared.Refusal.TheVariants.{NoSheet, BadCount, ShortList, BadPair, BadRecord, Forward, NotListed, PastTheLog, OverBudget, NoSpace, WrongHalf}
 
 abbrev pub code_of : Refusal → ℕ
-code_of Nothing = 0
 code_of NoSheet = 1
 code_of BadCount = 2
 code_of ShortList = 3
@@ -16,3 +15,8 @@ code_of PastTheLog = 8
 code_of OverBudget = 9
 code_of NoSpace = 10
 code_of WrongHalf = 12
+
+-- 0 where the check passes, else the number of the refusal
+abbrev pub checked_code : {T : Type 0} → Result T Refusal → ℕ
+checked_code (Ok x) = 0
+checked_code (Err r) = code_of r

@@ -3,3 +3,4 @@ pub mod Sheet
 pub mod Record
 pub mod Refusal
 pub mod Code
+pub mod Kind

@@ -1,77 +1,63 @@
 // A sheet's bytes: the term DAG of document 01. Which byte slices are refused and why, and readers of a good one.
 #![tactic(auto)]
 
-ghost use Rattle.std.specs.Prelude.{◌≡◌, ◌⊎◌, ◌≤◌};
+ghost use Rattle.std.specs.Prelude.{◌≡◌};
 ghost use Rattle.dag.specs.Refusal.{refusal};
-ghost use Rattle.dag.specs.Code.{code_of};
+ghost use Rattle.dag.specs.Code.{code_of, checked_code};
 
 mod faults;
+mod kind;
 pub mod record;
 pub mod sheet;
 
 pub use faults::LONGEST;
+pub use kind::Kind;
+pub use sheet::Sheet;
 
-// Document 01's ten refusals, document 02's wrong half, and none.
-#[derive(Clone, Copy)]
+// Document 01's ten refusals, and document 02's wrong half, each with its number.
+#[derive(Clone, Copy, Debug, PartialEq, Eq)]
 pub enum Refusal {
-    Nothing,
-    NoSheet,
-    BadCount,
-    ShortList,
-    BadPair,
-    BadRecord,
-    Forward,
-    NotListed,
-    PastTheLog,
-    OverBudget,
-    NoSpace,
-    WrongHalf,
+    NoSheet = 1,
+    BadCount = 2,
+    ShortList = 3,
+    BadPair = 4,
+    BadRecord = 5,
+    Forward = 6,
+    NotListed = 7,
+    PastTheLog = 8,
+    OverBudget = 9,
+    NoSpace = 10,
+    WrongHalf = 12,
 }
 
-// The number of a refusal; 0 for none.
-pub fn code(r: Refusal) -> u32
-    ensures { result ≡ code_of r }
-{
-    match r {
-        Refusal::Nothing => 0,
-        Refusal::NoSheet => 1,
-        Refusal::BadCount => 2,
-        Refusal::ShortList => 3,
-        Refusal::BadPair => 4,
-        Refusal::BadRecord => 5,
-        Refusal::Forward => 6,
-        Refusal::NotListed => 7,
-        Refusal::PastTheLog => 8,
-        Refusal::OverBudget => 9,
-        Refusal::NoSpace => 10,
-        Refusal::WrongHalf => 12,
+// The number of a refusal.
+impl From<Refusal> for u32 {
+    ghost from_gives = { λ r n. n ≡ code_of r };
+
+    fn from(r: Refusal) -> u32 {
+        r as u32
     }
 }
 
-// The refusal that a number from 0 to 10, or 12, names.
-fn named(code: u8) -> Refusal
-    requires { (code ≤ 10) ⊎ (code ≡ 12) }
-    ensures { code_of result ≡ code }
+// The number of what a check answers: the refusal's, and 0 for none.
+pub fn code(checked: Result<(), Refusal>) -> u32
+    ensures { result ≡ checked_code checked }
 {
-    match code {
-        0 => Refusal::Nothing,
-        1 => Refusal::NoSheet,
-        2 => Refusal::BadCount,
-        3 => Refusal::ShortList,
-        4 => Refusal::BadPair,
-        5 => Refusal::BadRecord,
-        6 => Refusal::Forward,
-        7 => Refusal::NotListed,
-        8 => Refusal::PastTheLog,
-        9 => Refusal::OverBudget,
-        10 => Refusal::NoSpace,
-        _ => Refusal::WrongHalf,
+    match checked {
+        Ok(()) => 0,
+        Err(r) => u32::from(r),
     }
 }
 
 // Is this slice a good sheet? Any slice of bytes gets its refusal by the grounding table, rows 1 to 7 and 12, or none.
-pub fn validate(s: &[u8]) -> Refusal
-    ensures { code_of result ≡ refusal s.now }
+#[tactic(auto, using(crate::proofs::Laws::Code::or_else_code, crate::proofs::Laws::Refusal::or_else_zero), unfolding(crate::specs::Refusal::refusal))]
+pub fn validate(s: &[u8]) -> Result<(), Refusal>
+    ensures { checked_code result ≡ refusal s.now }
 {
-    named(faults::refused(s))
+    faults::no_sheet(s)?;
+    faults::bad_count(s)?;
+    faults::short_list(s)?;
+    faults::bad_pairs(s)?;
+    faults::bad_records(s)?;
+    faults::not_listed(s)
 }

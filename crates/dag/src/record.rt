@@ -3,70 +3,34 @@ ghost use Rattle.std.specs.Prelude.{◌≡◌, ◌||◌, eqb};
 ghost use Rattle.dag.specs.Sheet.{number_at};
 ghost use Rattle.dag.specs.Record.{kind_of, fits, atom_of, item_count};
 
-use crate::sheet;
+use crate::{Kind, sheet};
 
-// The kind byte; 0 where there is none.
+// The kind byte; 0 where there is none. Any slice has an answer, so the kind is a number.
 pub fn kind(r: &[u8]) -> u8
     ensures { result ≡ kind_of r.now }
 {
-    if r.len() == 0 {
-        return 0;
-    }
-    r[0]
+    r.first().copied().unwrap_or(0)
 }
 
-// Is this the kind of a half, private or public?
+// Is this the kind of a half, private or public? Any byte has an answer, so the kind is a number.
 pub fn is_half(kind: u8) -> bool
     ensures { result ≡ (eqb kind 5 || eqb kind 6) }
 {
-    if kind == 5 {
-        return true;
-    }
-    kind == 6
+    kind == Kind::PrivateHalf as u8 || kind == Kind::PublicHalf as u8
 }
 
-// Do atoms have records of this length? The short record has a number of two bytes, the long one a number of four.
-fn atom_has_length(len: usize) -> bool
-    ensures { result ≡ fits 1 len }
-{
-    if len == 3 {
-        return true;
-    }
-    len == 5
-}
-
-// Does the kind have records of this length?
+// Does the kind have records of this length? Any byte has an answer, so the kind is a number.
 pub fn has_length(kind: u8, len: usize) -> bool
     ensures { result ≡ fits kind len }
 {
-    if kind == 0 {
-        return len == 1;
+    match Kind::try_from(kind) {
+        Ok(kind) => kind.has_length(len),
+        Err(_) => false,
     }
-    if kind == 1 {
-        return atom_has_length(len);
-    }
-    if kind == 2 {
-        return len == 5;
-    }
-    if kind == 3 {
-        return len == 5;
-    }
-    if kind == 4 {
-        if len % 2 == 0 {
-            return false;
-        }
-        return len <= 129;
-    }
-    if is_half(kind) {
-        return len == 3;
-    }
-    if kind == 7 {
-        return len == 5;
-    }
-    false
 }
 
 // An atom's number, whole: the four bytes after the kind byte in a long record, else the two.
+#[tactic(auto, unfolding(crate::specs::Record::atom_of))]
 pub fn atom(r: &[u8]) -> u32
     ensures { result ≡ atom_of r.now }
 {
@@ -97,8 +61,5 @@ pub fn second(r: &[u8]) -> u16
 pub fn item_count(r: &[u8]) -> usize
     ensures { result ≡ item_count r.now }
 {
-    if r.len() == 0 {
-        return 0;
-    }
-    (r.len() - 1) / 2
+    r.len().saturating_sub(1) / 2
 }

@@ -5,7 +5,10 @@ pub mod run;
 mod whole;
 mod writer;
 
-// One step (document 01: rung). A source that isn't used is 65,535.
+// In a step: no source.
+const UNUSED: u16 = 65535;
+
+// One step (document 01: rung). Rule and sources are numbers as they stand in the buffer: a source that isn't used is 65,535.
 #[derive(Drop)]
 pub struct Step {
     pub head: u8,

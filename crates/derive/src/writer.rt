@@ -9,8 +9,7 @@ fn put(out: &mut [u8], at: usize, x: u16)
     requires { at + 2 ≤ length out.old }
     ensures { out.new ≡ take at out.old ++ (two x ++ drop (at + 2) out.old) }
 {
-    out[at] = (x / 256) as u8;
-    out[at + 1] = (x % 256) as u8;
+    out[at..at + 2].copy_from_slice(&x.to_be_bytes());
 }
 
 // A step at the front of out, which is the part of the buffer that begins where the last step ended.
@@ -22,6 +21,5 @@ pub fn write_step(step: Step, out: &mut [u8])
     put(out, 2, step.rule as u16);
     put(out, 4, step.first);
     put(out, 6, step.second);
-    let set = step.set;
-    let _fits = bitset::write(set, &mut out[8..]);
+    let _fits = bitset::write(step.set, &mut out[8..]);
 }

@@ -1,2 +1,2 @@
--- Inner: the rows that the words of the state are, and the state that they hold.
+-- Inner: the rows of the state, what the state holds, and the lines beside it.
 pub mod Inner

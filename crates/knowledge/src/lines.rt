@@ -7,71 +7,20 @@ ghost use Rattle.bitset.specs.Set.{single};
 ghost use Rattle.bitset.specs.Words.{value};
 ghost use Rattle.bitset.specs.Inner.{FourWords};
 ghost use Rattle.deduction.specs.Elimination.{Row, reduce, add_row};
-ghost use Rattle.knowledge.specs.Inner.Lines.{Sizes, Swept, Flipped, Kept, Entered, Begun};
+ghost use Rattle.knowledge.specs.Inner.Lines.{Sizes, SweptIn, Flipped, KeptIn, Entered, Begun};
 
-// Adds a row to line k, and puts k among the empty lines if nothing is left of it.
-fn add_row(
-    remainders: &mut [[u64; 4]; 256],
-    used: &mut [[u64; 4]; 256],
-    empty: &mut [u64; 4],
-    k: u8,
-    vector: [u64; 4],
-    uses: [u64; 4],
-)
-    requires { Sizes remainders.old used.old empty.old }
-    ensures { Swept (value vector) (value uses) (single k) remainders.old used.old empty.old remainders.new used.new empty.new }
-{
-    let at = k as usize;
-    let remainder = bitset::sum(remainders[at], vector);
-    remainders[at] = remainder;
-    used[at] = bitset::sum(used[at], uses);
-    if bitset::is_empty(remainder) {
-        bitset::put(empty, k);
-    }
-}
-
-// The same for each line that a word has, from line base on.
-fn add_to_word(
-    remainders: &mut [[u64; 4]; 256],
-    used: &mut [[u64; 4]; 256],
-    empty: &mut [u64; 4],
-    word: u64,
-    base: u8,
-    vector: [u64; 4],
-    uses: [u64; 4],
-)
-    requires { Sizes remainders.old used.old empty.old × (base ≤ 192) }
-    ensures { Swept (value vector) (value uses) (word * 2 ^ base) remainders.old used.old empty.old remainders.new used.new empty.new }
-{
-    let mut left = word;
-    while left != 0 {
-        let k = base + bitset::lowest(left);
-        add_row(remainders, used, empty, k, vector, uses);
-        left = bitset::rest(left);
-    }
-}
-
-// The same for each line of a column.
-fn add_to_column(
-    remainders: &mut [[u64; 4]; 256],
-    used: &mut [[u64; 4]; 256],
-    empty: &mut [u64; 4],
-    column: [u64; 4],
-    vector: [u64; 4],
-    uses: [u64; 4],
-)
-    requires { Sizes remainders.old used.old empty.old }
-    ensures { Swept (value vector) (value uses) (value column) remainders.old used.old empty.old remainders.new used.new empty.new }
-{
-    add_to_word(remainders, used, empty, column[0], 0, vector, uses);
-    add_to_word(remainders, used, empty, column[1], 64, vector, uses);
-    add_to_word(remainders, used, empty, column[2], 128, vector, uses);
-    add_to_word(remainders, used, empty, column[3], 192, vector, uses);
+// Remainder and used set of each line, the columns, and the set of the empty lines. The remainders are a table of their own, since the table of the entries'
+// sets becomes that of the remainders where it stands.
+#[derive(Drop)]
+pub struct Lines {
+    pub remainders: [[u64; 4]; 256],
+    pub used: [[u64; 4]; 256],
+    pub columns: [[u64; 4]; 256],
+    pub empty: [u64; 4],
 }
 
 // Changes column q by a set of lines: those that it lacks are added, and those that it has are taken off.
 fn flip_column(columns: &mut [[u64; 4]; 256], q: u8, lines: [u64; 4])
-    requires { length columns.old ≡ 256 }
     ensures { Flipped (value lines) (single q) columns.old columns.new }
 {
     let at = q as usize;
@@ -80,20 +29,18 @@ fn flip_column(columns: &mut [[u64; 4]; 256], q: u8, lines: [u64; 4])
 
 // The same for each column that a word has, from column base on.
 fn flip_word(columns: &mut [[u64; 4]; 256], word: u64, base: u8, lines: [u64; 4])
-    requires { (length columns.old ≡ 256) × (base ≤ 192) }
+    requires { base ≤ 192 }
     ensures { Flipped (value lines) (word * 2 ^ base) columns.old columns.new }
 {
-    let mut left = word;
-    while left != 0 {
-        let q = base + bitset::lowest(left);
+    for q in bitset::members_of(word, base) {
         flip_column(columns, q, lines);
-        left = bitset::rest(left);
     }
 }
 
-// The same for each column in a set.
+// The same for each column in a set, word by word: one loop over the whole set was tried and is slower. It is made part of its two callers, so that the lines
+// stay in registers.
+#[inline(always)]
 fn flip(columns: &mut [[u64; 4]; 256], set: [u64; 4], lines: [u64; 4])
-    requires { length columns.old ≡ 256 }
     ensures { Flipped (value lines) (value set) columns.old columns.new }
 {
     flip_word(columns, set[0], 0, lines);
@@ -102,70 +49,83 @@ fn flip(columns: &mut [[u64; 4]; 256], set: [u64; 4], lines: [u64; 4])
     flip_word(columns, set[3], 192, lines);
 }
 
-// Learns entry e in the tables: where something is left of it, its line is the new row, which is taken off every line that has the row's pivot.
-pub fn sweep(
-    remainders: &mut [[u64; 4]; 256],
-    used: &mut [[u64; 4]; 256],
-    columns: &mut [[u64; 4]; 256],
-    empty: &mut [u64; 4],
-    e: u8,
-)
-    requires { Sizes remainders.old used.old empty.old × (length columns.old ≡ 256) }
-    ensures sizes { Sizes remainders.new used.new empty.new × (length columns.new ≡ 256) }
-    ensures lines { (live : ℕ → Bool) (s : ℕ → ℕ) (rows : List Row) → live e ≡ true → Kept live s rows remainders.old used.old columns.old empty.old → Kept live s (add_row rows e (reduce rows (s e))) remainders.new used.new columns.new empty.new }
-{
-    let at = e as usize;
-    let vector = remainders[at];
-    if !bitset::is_empty(vector) {
-        let uses = bitset::sum(used[at], bitset::singleton(e));
-        let column = columns[bitset::leading(vector) as usize];
-        flip(columns, vector, column);
-        add_to_column(remainders, used, empty, column, vector, uses);
-    }
-}
-
-// Changes each column in a set by line i alone, which then joins a column that it isn't in. It is `flip` once more: called from one place each, both are made
-// part of their callers, and the lines stay in registers.
-fn join(columns: &mut [[u64; 4]; 256], set: [u64; 4], i: u8)
-    requires { length columns.old ≡ 256 }
-    ensures { Flipped (single i) (value set) columns.old columns.new }
-{
-    let line = bitset::singleton(i);
-    flip_word(columns, set[0], 0, line);
-    flip_word(columns, set[1], 64, line);
-    flip_word(columns, set[2], 128, line);
-    flip_word(columns, set[3], 192, line);
-}
-
-// Puts line i, whose remainder is set, into the columns, and among the empty lines if it is empty; but only a head.
-fn enter(columns: &mut [[u64; 4]; 256], empty: &mut [u64; 4], head: bool, i: u8, set: [u64; 4])
-    requires { (length columns.old ≡ 256) × FourWords empty.old }
-    ensures { Entered head i (value set) columns.old empty.old columns.new empty.new }
-{
-    if head {
-        join(columns, set, i);
-        if bitset::is_empty(set) {
-            bitset::put(empty, i);
+impl Lines {
+    // Adds a row to line k, and puts k among the empty lines if nothing is left of it.
+    fn add_row(&mut self, k: u8, vector: [u64; 4], uses: [u64; 4])
+        ensures { SweptIn (value vector) (value uses) (single k) self.old self.new }
+    {
+        let at = k as usize;
+        let remainder = bitset::sum(self.remainders[at], vector);
+        self.remainders[at] = remainder;
+        self.used[at] = bitset::sum(self.used[at], uses);
+        if bitset::is_empty(remainder) {
+            bitset::put(&mut self.empty, k);
         }
     }
-}
 
-// Fills the columns and the empty lines, of which there are none before, from the remainders of the heads among the first n entries.
-pub fn begin(
-    remainders: &[[u64; 4]; 256],
-    reps: &[u8; 256],
-    n: usize,
-    columns: &mut [[u64; 4]; 256],
-    empty: &mut [u64; 4],
-)
-    requires { (n ≤ 256) × (length columns.old ≡ 256) × FourWords empty.old × (value empty.old ≡ 0) × ((q : ℕ) → value (get_or columns.old q []) ≡ 0) }
-    ensures { Begun n remainders.now reps.now columns.new empty.new }
-{
-    let mut i: usize = 0;
-    while i < n {
-        let e = i as u8;
-        let head = reps[i] == e;
-        enter(columns, empty, head, e, remainders[i]);
-        i += 1;
+    // The same for each line that a word has, from line base on.
+    fn add_to_word(&mut self, word: u64, base: u8, vector: [u64; 4], uses: [u64; 4])
+        requires { base ≤ 192 }
+        ensures { SweptIn (value vector) (value uses) (word * 2 ^ base) self.old self.new }
+    {
+        for k in bitset::members_of(word, base) {
+            self.add_row(k, vector, uses);
+        }
+    }
+
+    // The same for each line of a column, word by word as in `flip`.
+    fn add_to_column(&mut self, column: [u64; 4], vector: [u64; 4], uses: [u64; 4])
+        ensures { SweptIn (value vector) (value uses) (value column) self.old self.new }
+    {
+        self.add_to_word(column[0], 0, vector, uses);
+        self.add_to_word(column[1], 64, vector, uses);
+        self.add_to_word(column[2], 128, vector, uses);
+        self.add_to_word(column[3], 192, vector, uses);
+    }
+
+    // Learns entry e in the lines: where something is left of it, its line is the new row, which is taken off every line that has the row's pivot.
+    pub fn sweep(&mut self, e: u8)
+        ensures sizes { Sizes self.old.remainders self.old.used self.old.empty → Sizes self.new.remainders self.new.used self.new.empty × (length self.new.columns ≡ 256) }
+        ensures lines { (live : ℕ → Bool) (s : ℕ → ℕ) (rows : List Row) → live e ≡ true → KeptIn live s rows self.old → KeptIn live s (add_row rows e (reduce rows (s e))) self.new }
+    {
+        let at = e as usize;
+        let vector = self.remainders[at];
+        if !bitset::is_empty(vector) {
+            let uses = bitset::sum(self.used[at], bitset::singleton(e));
+            let column = self.columns[bitset::leading(vector) as usize];
+            flip(&mut self.columns, vector, column);
+            self.add_to_column(column, vector, uses);
+        }
+    }
+
+    // Puts line i into the columns, and among the empty lines if it is empty. That the set of these is four words of 64 bits is asked, since of an array
+    // in a lent struct the check knows the length and not the range of its elements.
+    fn enter(&mut self, i: u8)
+        requires { FourWords self.old.empty }
+        ensures entered { Entered i (value (get_or self.old.remainders i [])) self.old.columns self.old.empty self.new.columns self.new.empty }
+        ensures remainders { self.new.remainders ≡ self.old.remainders }
+        ensures used { self.new.used ≡ self.old.used }
+    {
+        let set = self.remainders[i as usize];
+        flip(&mut self.columns, set, bitset::singleton(i));
+        if bitset::is_empty(set) {
+            bitset::put(&mut self.empty, i);
+        }
+    }
+
+    // Fills the columns and the empty lines, of which there are none before, from the remainders of the heads among the first n entries.
+    pub fn begin(&mut self, reps: &[u8; 256], n: usize)
+        requires { (n ≤ 256) × (value self.old.empty ≡ 0) × ((q : ℕ) → value (get_or self.old.columns q []) ≡ 0) }
+        ensures begun { Begun n self.old.remainders reps.now self.new.columns self.new.empty }
+        ensures remainders { self.new.remainders ≡ self.old.remainders }
+        ensures used { self.new.used ≡ self.old.used }
+        ensures sizes { Sizes self.new.remainders self.new.used self.new.empty }
+    {
+        for i in 0..n {
+            let e = i as u8;
+            if reps[i] == e {
+                self.enter(e);
+            }
+        }
     }
 }

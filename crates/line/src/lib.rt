@@ -1,181 +1,187 @@
-// The lines of the card, made in a lent buffer, byte by byte. Each function appends from the place `at` on and answers the place after its text.
+// The text of a card, made in a lent buffer. Each method adds to the end of the text.
 #![tactic(auto)]
 
-ghost use Rattle.std.specs.Prelude.{◌++◌, ◌+◌, ◌≤◌, length};
+ghost use Rattle.std.specs.Prelude.{◌≡◌, ◌++◌};
 ghost use Rattle.bitset.specs.Words.{value};
-ghost use Rattle.line.specs.Decimal.{decimal};
+ghost use Rattle.line.specs.Words.{newline};
 ghost use Rattle.line.specs.Line.{spaced, field, source, sources, rule_text, pair_line, goal_line, out_line, reached_line, step_line, refused_line};
-ghost use Rattle.line.specs.Buffer.{Appended};
+ghost use Rattle.line.specs.Text.{Fits, Adds};
 
-// Appends a word.
-fn text(out: &mut [u8], at: usize, word: &[u8]) -> usize
-    requires { at + length word.now ≤ length out.old }
-    ensures { Appended out.old at word.now out.new result }
-{
-    let mut i: usize = 0;
-    while i < word.len() {
-        out[at + i] = word[i];
-        i += 1;
+// A step of a run: the entry that it gains, the number of its rule, and its sources.
+#[derive(Clone, Copy)]
+pub struct Rung {
+    pub head: u16,
+    pub rule: u16,
+    pub first: u16,
+    pub second: u16,
+    pub set: [u64; 4],
+}
+
+// Text at the front of a lent buffer, whose other bytes stay as they were.
+// Its lines are methods and not a `Display`: a `fmt` may answer an error, no clause of it says when, and a line is promised wherever there is room.
+#[derive(Drop)]
+pub struct Text<'a> {
+    out: &'a mut [u8],
+    len: usize,
+}
+
+impl<'a> Text<'a> {
+    // The first `len` bytes of a lent buffer as text.
+    pub fn new(out: &'a mut [u8], len: usize) -> Text<'a>
+        ensures same_reference { result.out.ghost_name ≡ out.entry.ghost_name }
+        ensures buffer { result.out.now ≡ out.old }
+        ensures len { result.len ≡ len }
+    {
+        Text { out, len }
     }
-    at + i
-}
 
-// Appends a number in decimal: the digits of its tenth part, then its last digit.
-fn decimal(out: &mut [u8], at: usize, x: u32) -> usize
-    requires { at + length (decimal x) ≤ length out.old }
-    ensures { Appended out.old at (decimal x) out.new result }
-{
-    if x < 10 {
-        out[at] = 48 + (x as u8);
-        return at + 1;
+    // The text's length.
+    pub fn len(&self) -> usize
+        ensures { result ≡ self.now.len }
+    {
+        self.len
     }
-    let end = decimal(out, at, x / 10);
-    out[end] = 48 + ((x % 10) as u8);
-    end + 1
-}
 
-// Appends a space and a number.
-fn number(out: &mut [u8], at: usize, x: u32) -> usize
-    requires { at + length (spaced x) ≤ length out.old }
-    ensures { Appended out.old at (spaced x) out.new result }
-{
-    let a = text(out, at, b" ");
-    decimal(out, a, x)
-}
-
-// Appends a word, a space and a number.
-fn field(out: &mut [u8], at: usize, word: &[u8], x: u32) -> usize
-    requires { at + length (field word.now x) ≤ length out.old }
-    ensures { Appended out.old at (field word.now x) out.new result }
-{
-    let a = text(out, at, word);
-    number(out, a, x)
-}
-
-// Appends what entry e adds to the sources of a sum.
-fn source(out: &mut [u8], at: usize, set: [u64; 4], e: u8) -> usize
-    requires { at + length (source (value set) e) ≤ length out.old }
-    ensures { Appended out.old at (source (value set) e) out.new result }
-{
-    if bitset::member(set, e) {
-        return number(out, at, e as u32);
+    // A word.
+    fn push(&mut self, word: &[u8])
+        requires { Fits self.old word.now }
+        ensures { Adds self.old word.now self.new }
+    {
+        let end = self.len + word.len();
+        self.out[self.len..end].copy_from_slice(word);
+        self.len = end;
     }
-    at
-}
 
-// Appends the sources of a sum, in rising order.
-fn sources(out: &mut [u8], at: usize, set: [u64; 4]) -> usize
-    requires { at + 1024 ≤ length out.old }
-    ensures { Appended out.old at (sources (value set) 256) out.new result }
-{
-    let mut end = at;
-    let mut e: u16 = 0;
-    while e < 256 {
-        end = source(out, end, set, e as u8);
-        e += 1;
+    // The end of a line.
+    fn newline(&mut self)
+        requires { Fits self.old newline }
+        ensures { Adds self.old newline self.new }
+    {
+        self.push(b"\n");
     }
-    end
-}
 
-// Appends a word and two sources.
-fn two(out: &mut [u8], at: usize, word: &[u8], first: u16, second: u16) -> usize
-    requires { at + length (field word.now first ++ spaced second) ≤ length out.old }
-    ensures { Appended out.old at (field word.now first ++ spaced second) out.new result }
-{
-    let a = field(out, at, word, first as u32);
-    number(out, a, second as u32)
-}
+    // A space and a number.
+    fn number(&mut self, x: u32)
+        requires { Fits self.old (spaced x) }
+        ensures { Adds self.old (spaced x) self.new }
+    {
+        let mut digits = itoa::Buffer::new();
+        self.push(b" ");
+        self.push(digits.format(x).as_bytes());
+    }
 
-// Appends a rule's word and its sources, by the rule's number; nothing for a number that no rule has.
-fn rule_text(out: &mut [u8], at: usize, rule: u16, first: u16, second: u16, set: [u64; 4]) -> usize
-    requires { at + 1030 ≤ length out.old }
-    ensures { Appended out.old at (rule_text rule first second (value set)) out.new result }
-{
-    if rule == 1 {
-        return field(out, at, b" left", first as u32);
+    // A word, a space and a number.
+    fn field(&mut self, word: &[u8], x: u32)
+        requires { Fits self.old (field word.now x) }
+        ensures { Adds self.old (field word.now x) self.new }
+    {
+        self.push(word);
+        self.number(x);
     }
-    if rule == 2 {
-        return field(out, at, b" right", first as u32);
-    }
-    if rule == 3 {
-        return two(out, at, b" open", first, second);
-    }
-    if rule == 4 {
-        return two(out, at, b" join", first, second);
-    }
-    if rule == 5 {
-        return two(out, at, b" seal", first, second);
-    }
-    if rule == 6 {
-        let a = text(out, at, b" sum");
-        return sources(out, a, set);
-    }
-    if rule == 7 {
-        return two(out, at, b" unlock", first, second);
-    }
-    if rule == 8 {
-        return two(out, at, b" lock", first, second);
-    }
-    at
-}
 
-// A line of two words with a number after each.
-fn pair_line(out: &mut [u8], at: usize, before: &[u8], a: u32, between: &[u8], b: u32) -> usize
-    requires { (length before.now + length between.now ≤ 30) × (at + 64 ≤ length out.old) }
-    ensures { Appended out.old at (pair_line before.now a between.now b) out.new result }
-{
-    let i = field(out, at, before, a);
-    let j = field(out, i, between, b);
-    text(out, j, b"\n")
-}
+    // What an entry adds to the sources of a sum.
+    fn source(&mut self, set: [u64; 4], e: u8)
+        requires { Fits self.old (source (value set) e) }
+        ensures { Adds self.old (source (value set) e) self.new }
+    {
+        if bitset::member(set, e) {
+            self.number(u32::from(e));
+        }
+    }
 
-// goal G heard H
-pub fn goal_line(out: &mut [u8], at: usize, goal: u16, trace: u16) -> usize
-    requires { at + 64 ≤ length out.old }
-    ensures { Appended out.old at (goal_line goal trace) out.new result }
-{
-    pair_line(out, at, b"goal", goal as u32, b" heard", trace as u32)
-}
+    // The sources of a sum, in rising order.
+    fn sources(&mut self, set: [u64; 4])
+        requires { Fits self.old (sources (value set) 256) }
+        ensures { Adds self.old (sources (value set) 256) self.new }
+    {
+        for e in 0..=255u8 {
+            self.source(set, e);
+        }
+    }
 
-// cut C out of reach known K
-pub fn out_line(out: &mut [u8], at: usize, cut: u16, known: u32) -> usize
-    requires { at + 64 ≤ length out.old }
-    ensures { Appended out.old at (out_line cut known) out.new result }
-{
-    pair_line(out, at, b"cut", cut as u32, b" out of reach known", known)
-}
+    // A word and two sources.
+    fn two(&mut self, word: &[u8], first: u32, second: u32)
+        requires { Fits self.old (field word.now first ++ spaced second) }
+        ensures { Adds self.old (field word.now first ++ spaced second) self.new }
+    {
+        self.field(word, first);
+        self.number(second);
+    }
 
-// cut C reached rungs R
-pub fn reached_line(out: &mut [u8], at: usize, cut: u16, made: u16) -> usize
-    requires { at + 64 ≤ length out.old }
-    ensures { Appended out.old at (reached_line cut made) out.new result }
-{
-    pair_line(out, at, b"cut", cut as u32, b" reached rungs", made as u32)
-}
+    // A rule's word and its sources; nothing for a number that no rule has. A rung has its rule as a number, since it is read from bytes.
+    #[tactic(auto, unfolding(crate::specs::Line::rule_text))]
+    fn rule(&mut self, rung: Rung)
+        requires { Fits self.old (rule_text rung.rule rung.first rung.second (value rung.set)) }
+        ensures { Adds self.old (rule_text rung.rule rung.first rung.second (value rung.set)) self.new }
+    {
+        let first = u32::from(rung.first);
+        let second = u32::from(rung.second);
+        match rung.rule {
+            1 => self.field(b" left", first),
+            2 => self.field(b" right", first),
+            3 => self.two(b" open", first, second),
+            4 => self.two(b" join", first, second),
+            5 => self.two(b" seal", first, second),
+            6 => {
+                self.push(b" sum");
+                self.sources(rung.set);
+            }
+            7 => self.two(b" unlock", first, second),
+            8 => self.two(b" lock", first, second),
+            _ => {}
+        }
+    }
 
-// rung HEAD WORD SOURCES
-pub fn step_line(
-    out: &mut [u8],
-    at: usize,
-    head: u16,
-    rule: u16,
-    first: u16,
-    second: u16,
-    set: [u64; 4],
-) -> usize
-    requires { at + 1050 ≤ length out.old }
-    ensures { Appended out.old at (step_line head rule first second (value set)) out.new result }
-{
-    let i = field(out, at, b"rung", head as u32);
-    let end = rule_text(out, i, rule, first, second, set);
-    text(out, end, b"\n")
-}
+    // A line of two words with a number after each.
+    fn pair_line(&mut self, before: &[u8], a: u32, between: &[u8], b: u32)
+        requires { Fits self.old (pair_line before.now a between.now b) }
+        ensures { Adds self.old (pair_line before.now a between.now b) self.new }
+    {
+        self.field(before, a);
+        self.field(between, b);
+        self.newline();
+    }
 
-// refused N
-pub fn refused_line(out: &mut [u8], at: usize, refusal: u32) -> usize
-    requires { at + 64 ≤ length out.old }
-    ensures { Appended out.old at (refused_line refusal) out.new result }
-{
-    let i = field(out, at, b"refused", refusal);
-    text(out, i, b"\n")
+    // goal G heard H
+    pub fn goal_line(&mut self, goal: u16, trace: u16)
+        requires { Fits self.old (goal_line goal trace) }
+        ensures { Adds self.old (goal_line goal trace) self.new }
+    {
+        self.pair_line(b"goal", u32::from(goal), b" heard", u32::from(trace));
+    }
+
+    // cut C out of reach known K
+    pub fn out_line(&mut self, cut: u16, known: u32)
+        requires { Fits self.old (out_line cut known) }
+        ensures { Adds self.old (out_line cut known) self.new }
+    {
+        self.pair_line(b"cut", u32::from(cut), b" out of reach known", known);
+    }
+
+    // cut C reached rungs R
+    pub fn reached_line(&mut self, cut: u16, made: u16)
+        requires { Fits self.old (reached_line cut made) }
+        ensures { Adds self.old (reached_line cut made) self.new }
+    {
+        self.pair_line(b"cut", u32::from(cut), b" reached rungs", u32::from(made));
+    }
+
+    // rung HEAD WORD SOURCES
+    pub fn step_line(&mut self, rung: Rung)
+        requires { Fits self.old (step_line rung.head rung.rule rung.first rung.second (value rung.set)) }
+        ensures { Adds self.old (step_line rung.head rung.rule rung.first rung.second (value rung.set)) self.new }
+    {
+        self.field(b"rung", u32::from(rung.head));
+        self.rule(rung);
+        self.newline();
+    }
+
+    // refused N
+    pub fn refused_line(&mut self, refusal: u32)
+        requires { Fits self.old (refused_line refusal) }
+        ensures { Adds self.old (refused_line refusal) self.new }
+    {
+        self.field(b"refused", refusal);
+        self.newline();
+    }
 }

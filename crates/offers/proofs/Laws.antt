@@ -1,4 +1,5 @@
 pub mod Table
+pub mod Search
 pub mod Gives
 pub mod Members
 pub mod Users

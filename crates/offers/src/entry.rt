@@ -1,97 +1,84 @@
 // What one entry offers, read off its key: what it gives where it is known, and by what it is built where it isn't.
-ghost use Rattle.std.specs.Prelude.{◌≡◌};
+ghost use Rattle.std.specs.Prelude.{◌≡◌, MatchOption};
 ghost use Rattle.bitset.specs.Set.{member};
 ghost use Rattle.bitset.specs.Words.{value};
-ghost use Rattle.bitset.specs.Inner.{FourWords};
 ghost use Rattle.deduction.specs.Setting.{switches};
 ghost use Rattle.offers.specs.Inner.Offers.{both_known, built_by, key_gives, key_built};
-ghost use Rattle.offers.specs.Inner.Table.{Adds};
+ghost use Rattle.offers.specs.Inner.Rule.{rule_number};
+ghost use Rattle.offers.specs.Inner.Search.{Offered};
 
-use crate::table;
+use crate::Search;
+use crate::rules::Rule;
+use dag::Kind;
+
+// The rule by which an entry of this kind is built, where there is one.
+#[tactic(auto, unfolding(crate::specs::Inner::Offers::built_by))]
+fn building(kind: u8) -> Option<Rule>
+    ensures { MatchOption result (built_by kind ≡ 0) (λ rule. built_by kind ≡ rule_number rule) }
+{
+    match Kind::try_from(kind) {
+        Ok(Kind::Pair) => Some(Rule::Join),
+        Ok(Kind::Enc) => Some(Rule::Seal),
+        Ok(Kind::Aenc) => Some(Rule::Lock),
+        _ => None,
+    }
+}
 
 // Is e known, where e may be past every entry?
 fn is_known(known: &[u64; 4], e: u16) -> bool
-    requires { FourWords known.now }
     ensures { result ≡ member (value known.now) e }
 {
-    if 255 < e {
-        return false;
-    }
-    bitset::holds(known, e as u8)
-}
-
-// What the known entry i gives: a pair its parts, an encryption its message where its key is known, a lock its message where the opposite half of its
-// key is.
-pub fn opened(
-    best: &mut [u16; 256],
-    ready: &mut [u64; 4],
-    known: &[u64; 4],
-    rules: u8,
-    key: u64,
-    i: u8,
-)
-    requires { FourWords known.now }
-    ensures { Adds best.old ready.old best.new ready.new (key_gives (switches rules) (value known.now) key i) }
-{
-    let kind = canonical::kind(key);
-    if kind == 2 {
-        table::offer(best, ready, rules, canonical::left(key), 1, i);
-        table::offer(best, ready, rules, canonical::right(key), 2, i);
-        return;
-    }
-    if kind == 3 {
-        let open = bitset::holds(known, canonical::right(key));
-        table::offer_if(open, best, ready, rules, canonical::left(key), 3, i);
-        return;
-    }
-    if kind == 7 {
-        let open = is_known(known, canonical::opener(key));
-        table::offer_if(open, best, ready, rules, canonical::left(key), 7, i);
+    match u8::try_from(e) {
+        Ok(entry) => bitset::holds(known, entry),
+        Err(_) => false,
     }
 }
 
-// The rule by which an entry of this kind is built, and 0 where there is none.
-fn building(kind: u8) -> u8
-    ensures { result ≡ built_by kind }
-{
-    if kind == 2 {
-        return 4;
+impl Search {
+    // Are both parts of a pair or an encryption of either sort known?
+    fn both_known(&self, key: u64) -> bool
+        ensures { result ≡ both_known (value self.now.known) key }
+    {
+        bitset::holds(&self.known, canonical::left(key))
+            && bitset::holds(&self.known, canonical::right(key))
     }
-    if kind == 3 {
-        return 5;
-    }
-    if kind == 7 {
-        return 8;
-    }
-    0
-}
 
-// Are both parts of a pair or an encryption of either sort known?
-fn both_known(known: &[u64; 4], key: u64) -> bool
-    requires { FourWords known.now }
-    ensures { result ≡ both_known (value known.now) key }
-{
-    if bitset::holds(known, canonical::left(key)) {
-        return bitset::holds(known, canonical::right(key));
+    // What the known entry i gives: a pair its parts, an encryption its message where its key is known, a lock its message where the opposite half of its
+    // key is.
+    pub(crate) fn opened(&mut self, key: u64, i: u8)
+        ensures { Offered self.old self.new (key_gives (switches self.old.rules) (value self.old.known) key i) }
+    {
+        let Ok(kind) = Kind::try_from(canonical::kind(key)) else {
+            return;
+        };
+        match kind {
+            Kind::Pair => {
+                self.offer(canonical::left(key), Rule::Left, i);
+                self.offer(canonical::right(key), Rule::Right, i);
+            }
+            Kind::Enc => {
+                if bitset::holds(&self.known, canonical::right(key)) {
+                    self.offer(canonical::left(key), Rule::Open, i);
+                }
+            }
+            Kind::Aenc => {
+                if is_known(&self.known, canonical::opener(key)) {
+                    self.offer(canonical::left(key), Rule::Unlock, i);
+                }
+            }
+            _ => {}
+        }
     }
-    false
-}
 
-// By which rule the unknown entry i is built, where its parts are known.
-pub fn built(
-    best: &mut [u16; 256],
-    ready: &mut [u64; 4],
-    known: &[u64; 4],
-    rules: u8,
-    key: u64,
-    i: u8,
-)
-    requires { FourWords known.now }
-    ensures { Adds best.old ready.old best.new ready.new (key_built (switches rules) (value known.now) key i) }
-{
-    let rule = building(canonical::kind(key));
-    if rule != 0 {
-        let both = both_known(known, key);
-        table::offer_if(both, best, ready, rules, i, rule, canonical::left(key));
+    // By which rule the unknown entry i is built, where its parts are known.
+    pub(crate) fn built(&mut self, key: u64, i: u8)
+        ensures { Offered self.old self.new (key_built (switches self.old.rules) (value self.old.known) key i) }
+    {
+        let Some(rule) = building(canonical::kind(key)) else {
+            return;
+        };
+        if self.both_known(key) {
+            self.offer(i, rule, canonical::left(key));
+        }
     }
 }

@@ -1,62 +1,50 @@
 // The next step by the table: that of the lowest head that waits, which isn't known and has an offer in the table, or is a sum of known terms. A step's number
 // is head, then rule, then first source, so the least is the one that document 01's order names.
-ghost use Rattle.std.specs.Prelude.{◌≡◌, cond, ℕ, ◌+◌, ◌*◌, min, get_or};
+ghost use Rattle.std.specs.Prelude.{◌≡◌, cond, ℕ, ◌+◌, ◌*◌, ◌<◌, min, get_or, MatchOption};
 ghost use Rattle.bitset.specs.Set.{member};
 ghost use Rattle.bitset.specs.Words.{value};
 ghost use Rattle.deduction.specs.Setting.{switches};
+ghost use Rattle.deduction.specs.Run.{no_step};
 ghost use Rattle.offers.specs.Inner.Next.{summed, next_in};
 
-use crate::rules;
-
-// Above every step's number: nothing follows.
-pub const NO_STEP: u32 = 16777216;
+use crate::Search;
+use crate::rules::{self, Rule};
 
 // The number of a step from its head and the rest, rule and first source.
 fn number(head: u8, x: u16) -> u32
-    ensures { result ≡ head * 65536 + x }
+    ensures { (result ≡ head * 65536 + x) × (result < no_step) }
 {
     (head as u32) * 65536 + (x as u32)
 }
 
-// The smaller of two.
-fn least(a: u16, b: u16) -> u16
-    ensures { result ≡ min a b }
-{
-    if b < a {
-        return b;
+impl Search {
+    // The heads that are gained as a sum: those whose line is empty, which are sums of known terms, where the rule is switched on.
+    fn by_sum(&self, empty: [u64; 4]) -> [u64; 4]
+        ensures { (h : ℕ) → member (value result) h ≡ summed (switches self.now.rules) (value empty) h }
+    {
+        if rules::is_on(self.rules, Rule::Sum) {
+            return empty;
+        }
+        bitset::empty()
     }
-    a
-}
 
-// The heads that are gained as a sum: those whose line is empty, which are sums of known terms, where the rule is switched on.
-fn by_sum(rules: u8, empty: [u64; 4]) -> [u64; 4]
-    ensures { (h : ℕ) → member (value result) h ≡ summed (switches rules) (value empty) h }
-{
-    if rules::is_on(rules, 6) {
-        return empty;
+    // The least step that gains this head, by its offer or, where it is in the set sums, as a sum.
+    fn least_step(&self, sums: [u64; 4], head: u8) -> u32
+        ensures { (result ≡ head * 65536 + cond (member (value sums) head) (min (get_or self.now.best head 0) 1536) (get_or self.now.best head 0)) × (result < no_step) }
+    {
+        let b = self.best[head as usize];
+        if bitset::member(sums, head) {
+            return number(head, b.min(1536));
+        }
+        number(head, b)
     }
-    bitset::empty()
-}
 
-// The least step that gains this head, by its offer or, where it is in the set sums, as a sum.
-fn least_step(best: &[u16; 256], sums: [u64; 4], head: u8) -> u32
-    ensures { result ≡ head * 65536 + cond (member (value sums) head) (min (get_or best.now head 0) 1536) (get_or best.now head 0) }
-{
-    let b = best[head as usize];
-    if bitset::member(sums, head) {
-        return number(head, least(b, 1536));
+    // The number of the next step, where one follows.
+    pub fn next(&self, empty: [u64; 4]) -> Option<u32>
+        ensures { let n = next_in (switches self.now.rules) self.now.best (value self.now.ready) (value empty) (value self.now.known) in MatchOption result (n ≡ no_step) (λ x. (x ≡ n) × (x < no_step)) }
+    {
+        let sums = self.by_sum(empty);
+        let head = bitset::lowest_of(bitset::minus(bitset::union(self.ready, sums), self.known))?;
+        Some(self.least_step(sums, head))
     }
-    number(head, b)
-}
-
-// The number of the next step, or NO_STEP.
-pub fn next(best: &[u16; 256], ready: [u64; 4], empty: [u64; 4], known: [u64; 4], rules: u8) -> u32
-    ensures { result ≡ next_in (switches rules) best.now (value ready) (value empty) (value known) }
-{
-    let sums = by_sum(rules, empty);
-    let head = bitset::lowest_of(bitset::minus(bitset::union(ready, sums), known));
-    if head == 256 {
-        return NO_STEP;
-    }
-    least_step(best, sums, head as u8)
 }

@@ -1,5 +1,6 @@
 pub mod Lists
+pub mod Repeats
+pub mod Noted
 pub mod Heads
 pub mod Hearing
-pub mod Repeats
-pub mod Filled
+pub mod Fours

@@ -1,21 +1,23 @@
 -- The number of an answer for callers in C, the count in it, and the numbers that say "out of reach". Where the count is at most 256 the number names the
 -- answer: `number_names` (proofs/Laws/Code.antt).
-use Rattle.std.specs.Prelude.{ℕ, ◌+◌, ◌≤◌, ◌<◌}
+use Rattle.std.specs.Prelude.{ℕ, ◌+◌, ◌≤◌, ◌<◌, Result, Ok, Err}
 use Rattle.dag.specs.Code.{code_of}
-use Rattle.verdict.specs.declared.Answer.{Answer}
-use Rattle.verdict.specs.declared.Answer.TheVariants.{Refused, Derivable, Underivable, Exhausted}
+use Rattle.dag.specs.declared.Refusal.{Refusal}
+use Rattle.derive.specs.Inner.Ran.{verdict_of}
+use Rattle.verdict.specs.Demands.{verdict_code}
+use Rattle.verdict.specs.declared.Outcome.{Outcome}
 
-abbrev pub number_of : Answer → ℕ
-number_of (Refused r) = code_of r
-number_of (Derivable n) = 1000 + n
-number_of (Underivable n) = 2000 + n
-number_of (Exhausted n) = 3000 + n
+-- "the rung count plus" the verdict's number
+abbrev pub outcome_number : Outcome → ℕ
+outcome_number o = verdict_code (verdict_of o.verdict) + o.made
 
-abbrev pub made_in : Answer → ℕ
-made_in (Refused r) = 0
-made_in (Derivable n) = n
-made_in (Underivable n) = n
-made_in (Exhausted n) = n
+abbrev pub number_of : Result Outcome Refusal → ℕ
+number_of (Ok o) = outcome_number o
+number_of (Err r) = code_of r
+
+abbrev pub made_in : Result Outcome Refusal → ℕ
+made_in (Ok o) = o.made
+made_in (Err r) = 0
 
 -- an answer that says "out of reach"
 abbrev pub IsOut : ℕ → Type 0

@@ -5,10 +5,10 @@ ghost use Rattle.deduction.specs.Setting.{switches};
 ghost use Rattle.derive.specs.Inner.Ran.{verdict_of};
 ghost use Rattle.verdict.specs.Buffer.{front};
 ghost use Rattle.verdict.specs.Answer.{missing_as, front_bytes};
-ghost use Rattle.verdict.specs.Inner.Decide.{is_underivable, reduced_of, missing_in};
+ghost use Rattle.verdict.specs.Inner.Decide.{reduced_of, missing_in};
 
 use derive::run::Verdict;
-use offers::rules;
+use offers::rules::{self, Rule};
 
 // How many bytes stand before the first step: three sets.
 pub const FRONT: usize = 96;
@@ -20,22 +20,12 @@ pub struct Reduced {
     pub used: [u64; 4],
 }
 
-// Is the goal out of reach?
-fn is_underivable(verdict: Verdict) -> bool
-    ensures { result ≡ is_underivable (verdict_of verdict) }
-{
-    match verdict {
-        Verdict::Derivable => false,
-        Verdict::Underivable => true,
-        Verdict::Exhausted => false,
-    }
-}
-
 // What is missing of an entry with this set and this line: the line. Without the sum rule it is the set itself.
+#[tactic(auto, unfolding(crate::specs::Inner::Decide::missing_in))]
 fn missing_by(rules: u8, line: Reduced, set: [u64; 4]) -> Reduced
     ensures { reduced_of result.remainder result.used ≡ missing_in (switches rules) (reduced_of line.remainder line.used) (value set) }
 {
-    if rules::is_on(rules, 6) {
+    if rules::is_on(rules, Rule::Sum) {
         return line;
     }
     Reduced {
@@ -45,15 +35,16 @@ fn missing_by(rules: u8, line: Reduced, set: [u64; 4]) -> Reduced
 }
 
 // What is missing of the goal, with this line and the set goal, at out of reach. Nothing is missing at the other verdicts.
+#[tactic(auto, unfolding(crate::specs::Answer::missing_as))]
 pub fn missing(verdict: Verdict, rules: u8, line: Reduced, goal: [u64; 4]) -> Reduced
     ensures { reduced_of result.remainder result.used ≡ missing_as (verdict_of verdict) (missing_in (switches rules) (reduced_of line.remainder line.used) (value goal)) }
 {
-    if is_underivable(verdict) {
-        return missing_by(rules, line, goal);
-    }
-    Reduced {
-        remainder: bitset::empty(),
-        used: bitset::empty(),
+    match verdict {
+        Verdict::Underivable => missing_by(rules, line, goal),
+        Verdict::Derivable | Verdict::Exhausted => Reduced {
+            remainder: bitset::empty(),
+            used: bitset::empty(),
+        },
     }
 }
 

@@ -8,20 +8,22 @@ ghost use Rattle.deduction.specs.Standard.{set_at};
 ghost use Rattle.dag.specs.Sheet.{goal_of, trace_length};
 ghost use Rattle.dag.specs.Record.{entry_at};
 ghost use Rattle.dag.specs.Refusal.{refusal};
-ghost use Rattle.dag.specs.Code.{code_of};
+ghost use Rattle.dag.specs.Code.{checked_code};
 ghost use Rattle.verdict.specs.Buffer.{front};
 ghost use Rattle.verdict.specs.Refused.{full_limit, quick_limit, refusal_of};
 ghost use Rattle.verdict.specs.Demands.{Demanded};
 ghost use Rattle.verdict.specs.Agrees.{Agrees};
 ghost use Rattle.verdict.specs.Answer.{answer_of, buffer_of};
-ghost use Rattle.verdict.specs.Code.{number_of, made_in};
+ghost use Rattle.verdict.specs.Code.{outcome_number, number_of, made_in};
 ghost use Rattle.knowledge.specs.Inner.Lines.{line_at};
 ghost use Rattle.derive.specs.Inner.Ran.{Ready};
 ghost use Rattle.verdict.specs.Inner.Decide.{reduced_of, AtStart, Decided};
 
-use dag::{Refusal, sheet};
+use canonical::Tables;
+use dag::{Refusal, Sheet};
 use derive::run::{Ended, Verdict};
 use front::Reduced;
+use knowledge::lines::Lines;
 use offers::rules;
 
 mod front;
@@ -34,136 +36,119 @@ pub const FULL_LIMIT: u32 = 256;
 // That of the quick call (document 02, E7).
 pub const QUICK_LIMIT: u32 = 64;
 
-// The answer: refused, or the verdict with the number of steps made (document 01: reached, out of reach, stopped).
-#[derive(Drop)]
-pub enum Answer {
-    Refused(Refusal),
-    Derivable(u16),
-    Underivable(u16),
-    Exhausted(u16),
+// The verdict on a call that isn't refused, with the number of steps made (document 01: reached, out of reach, stopped).
+#[derive(Clone, Copy, Debug, PartialEq, Eq)]
+pub struct Outcome {
+    pub verdict: Verdict,
+    pub made: u16,
 }
 
+// The number of an outcome: the steps made plus 1,000, 2,000 or 3,000.
+impl From<Outcome> for u32 {
+    ghost from_gives = { λ o n. n ≡ outcome_number o };
+
+    fn from(o: Outcome) -> u32 {
+        let made = o.made as u32;
+        match o.verdict {
+            Verdict::Derivable => 1000 + made,
+            Verdict::Underivable => 2000 + made,
+            Verdict::Exhausted => 3000 + made,
+        }
+    }
+}
+
+// The answer: the outcome, or why the call is refused.
+pub type Answer = Result<Outcome, Refusal>;
+
 // Line k of the tables.
-fn line_of(remainders: &[[u64; 4]; 256], used: &[[u64; 4]; 256], k: u8) -> Reduced
-    ensures { reduced_of result.remainder result.used ≡ line_at remainders.now used.now k }
+fn line_of(lines: &Lines, k: u8) -> Reduced
+    ensures { reduced_of result.remainder result.used ≡ line_at lines.now.remainders lines.now.used k }
 {
     let at = k as usize;
     Reduced {
-        remainder: remainders[at],
-        used: used[at],
+        remainder: lines.remainders[at],
+        used: lines.used[at],
     }
 }
 
 // The run by the rules switched on, from a known set and the lines by it; set is the goal's. Its steps, and what stands before them, are written to out.
 fn run_from(
-    s: &[u8],
-    keys: &[u64; 256],
-    reps: &[u8; 256],
+    sheet: Sheet,
+    tables: &Tables,
     set: [u64; 4],
     known: [u64; 4],
-    remainders: &mut [[u64; 4]; 256],
-    used: &mut [[u64; 4]; 256],
-    columns: &mut [[u64; 4]; 256],
-    empty: &mut [u64; 4],
+    lines: &mut Lines,
     budget: u16,
     rules: u8,
     out: &mut [u8],
 ) -> Ended
-    requires { Ready s.now keys.now reps.now remainders.old used.old columns.old empty.old budget front out.old × (value set ≡ set_at (entry_at s.now) (goal_of s.now)) }
-    ensures { (cut : ℕ) → AtStart s.now cut reps.now known remainders.old used.old columns.old empty.old → Decided (switches rules) s.now cut budget out.old out.new result }
+    requires { Ready sheet.bytes.now tables.now.keys tables.now.reps budget front out.old × (value set ≡ set_at (entry_at sheet.bytes.now) (goal_of sheet.bytes.now)) }
+    ensures { (cut : ℕ) → AtStart sheet.entry.bytes.now cut tables.now.reps known lines.old → Decided (switches rules) sheet.entry.bytes.now cut budget out.old out.new result }
 {
-    let ended = derive::run::run(
-        s, keys, reps, known, remainders, used, columns, empty, budget, rules, FRONT, out,
-    );
-    let verdict = ended.verdict;
-    let gained = ended.known;
-    let goal = sheet::goal(s) as usize;
-    let line = line_of(remainders, used, reps[goal]);
-    let missing = front::missing(verdict, rules, line, set);
-    front::write_front(gained, missing, out);
+    let ended = derive::run::run(sheet, tables, known, lines, budget, rules, FRONT, out);
+    let goal = sheet.goal() as usize;
+    let line = line_of(lines, tables.reps[goal]);
+    let missing = front::missing(ended.verdict, rules, line, set);
+    front::write_front(ended.known, missing, out);
     ended
 }
 
 // The verdict on a good sheet by the rules switched on: its tables, and what is known at the start, from where the run goes on.
-fn decide(s: &[u8], cut: u16, budget: u16, rules: u8, out: &mut [u8]) -> Ended
-    requires { (refusal s.now ≡ 0) × (cut ≤ trace_length s.now) × (budget ≤ 256) × (front + 40 * budget ≤ length out.old) }
-    ensures { Decided (switches rules) s.now cut budget out.old out.new result }
+fn decide(sheet: Sheet, cut: u16, budget: u16, rules: u8, out: &mut [u8]) -> Ended
+    requires { (cut ≤ trace_length sheet.bytes.now) × (budget ≤ 256) × (front + 40 * budget ≤ length out.old) }
+    ensures { Decided (switches rules) sheet.entry.bytes.now cut budget out.old out.new result }
 {
-    let mut keys = [0u64; 256];
-    let mut remainders = [[0u64; 4]; 256];
-    let mut reps = [0u8; 256];
-    canonical::tables(s, &mut keys, &mut remainders, &mut reps);
-    let set = remainders[sheet::goal(s) as usize];
-    let mut used = [[0u64; 4]; 256];
-    let mut columns = [[0u64; 4]; 256];
-    let mut empty: [u64; 4] = [0, 0, 0, 0];
-    let start = start::state(
-        s,
-        cut,
-        &keys,
-        &reps,
-        &mut remainders,
-        &mut used,
-        &mut columns,
-        &mut empty,
-    );
+    let mut tables = Tables {
+        keys: [0; 256],
+        reps: [0; 256],
+    };
+    let mut lines = Lines {
+        remainders: [[0; 4]; 256],
+        used: [[0; 4]; 256],
+        columns: [[0; 4]; 256],
+        empty: [0; 4],
+    };
+    tables.fill(sheet, &mut lines.remainders);
+    let set = lines.remainders[sheet.goal() as usize];
+    let start = start::state(sheet, cut, &tables, &mut lines);
     let known = start.known;
-    run_from(
-        s,
-        &keys,
-        &reps,
-        set,
-        known,
-        &mut remainders,
-        &mut used,
-        &mut columns,
-        &mut empty,
-        budget,
-        rules,
-        out,
-    )
+    run_from(sheet, &tables, set, known, &mut lines, budget, rules, out)
 }
 
-// The answer to a call that isn't refused.
-fn judged(s: &[u8], cut: u16, budget: u16, rules: u8, out: &mut [u8]) -> Answer
-    requires { (refusal s.now ≡ 0) × (cut ≤ trace_length s.now) × (budget ≤ 256) × (front + 40 * budget ≤ length out.old) }
-    ensures answer { number_of result ≡ answer_of (switches rules) full_limit s.now cut budget (length out.old) }
-    ensures few { made_in result ≤ budget }
-    ensures bytes { out.new ≡ buffer_of (switches rules) full_limit s.now cut budget out.old }
+// The outcome of a call that isn't refused.
+fn judged(sheet: Sheet, cut: u16, budget: u16, rules: u8, out: &mut [u8]) -> Outcome
+    requires { (cut ≤ trace_length sheet.bytes.now) × (budget ≤ 256) × (front + 40 * budget ≤ length out.old) }
+    ensures answer { outcome_number result ≡ answer_of (switches rules) full_limit sheet.entry.bytes.now cut budget (length out.old) }
+    ensures few { result.made ≤ budget }
+    ensures bytes { out.new ≡ buffer_of (switches rules) full_limit sheet.entry.bytes.now cut budget out.old }
 {
-    let ended = decide(s, cut, budget, rules, out);
-    let made = ended.made;
-    let v = ended.verdict;
-    match v {
-        Verdict::Derivable => Answer::Derivable(made),
-        Verdict::Underivable => Answer::Underivable(made),
-        Verdict::Exhausted => Answer::Exhausted(made),
+    let ended = decide(sheet, cut, budget, rules, out);
+    Outcome {
+        verdict: ended.verdict,
+        made: ended.made,
     }
 }
 
-// Which row of the grounding table refuses the call, if any. The limit is the largest budget that isn't refused.
-fn refused(limit: u32, sheet: &[u8], cut: u32, budget: u32, space: usize) -> Refusal
-    ensures { code_of result ≡ refusal_of limit sheet.now cut budget space }
+// Which of the rows 8 to 10 of the grounding table refuses a call on a good sheet, if any. The limit is the largest budget that isn't refused.
+fn check_call(limit: u32, sheet: Sheet, cut: u32, budget: u32, space: usize) -> Result<(), Refusal>
+    ensures { checked_code result ≡ refusal_of limit sheet.entry.bytes.now cut budget space }
 {
-    let r = dag::validate(sheet);
-    if dag::code(r) != 0 {
-        return r;
-    }
-    if (sheet::trace_len(sheet) as u32) < cut {
-        return Refusal::PastTheLog;
+    if (sheet.trace_len() as u32) < cut {
+        return Err(Refusal::PastTheLog);
     }
     if limit < budget {
-        return Refusal::OverBudget;
+        return Err(Refusal::OverBudget);
     }
     if space < FRONT + 40 * (budget as usize) {
-        return Refusal::NoSpace;
+        return Err(Refusal::NoSpace);
     }
-    Refusal::Nothing
+    Ok(())
 }
 
 // The verdict call with a limit, by the rules switched on: what every entry point uses. A refusal leaves every byte of out; otherwise out gets the known
 // set, what is missing, 40 bytes a step, and keeps its later bytes. Only as many bytes as the budget needs are lent to what follows. (As it calls itself,
-// the compiler keeps the large tables of `judged` out of its frame: a refused call needs little stack.)
+// the compiler keeps the large tables of `judged` out of its frame: a refused call needs little stack.) Cut, budget and switches are numbers each, as callers
+// in C hand them over.
 fn within(limit: u32, sheet: &[u8], cut: u32, budget: u32, rules: u8, out: &mut [u8]) -> Answer
     requires { limit ≤ 256 }
     ensures answer { number_of result ≡ answer_of (switches rules) limit sheet.now cut budget (length out.old) }
@@ -176,11 +161,9 @@ fn within(limit: u32, sheet: &[u8], cut: u32, budget: u32, rules: u8, out: &mut 
     if need < out.len() {
         return within(limit, sheet, cut, budget, rules, &mut out[..need]);
     }
-    let r = refused(limit, sheet, cut, budget, out.len());
-    if dag::code(r) != 0 {
-        return Answer::Refused(r);
-    }
-    judged(sheet, cut as u16, budget as u16, rules, out)
+    let good = Sheet::new(sheet)?;
+    check_call(limit, good, cut, budget, out.len())?;
+    Ok(judged(good, cut as u16, budget as u16, rules, out))
 }
 
 // The verdict call by the rules switched on.
@@ -216,15 +199,13 @@ pub fn quick(sheet: &[u8], cut: u32, budget: u32, out: &mut [u8]) -> Answer
     within(QUICK_LIMIT, sheet, cut, budget, rules::EVERY, out)
 }
 
-// The number of an answer: a refusal's, or the steps made plus 1,000, 2,000 or 3,000.
-fn number(a: Answer) -> u32
-    ensures { result ≡ number_of a }
+// The number of an answer: a refusal's, or an outcome's.
+fn number(answer: Answer) -> u32
+    ensures { result ≡ number_of answer }
 {
-    match a {
-        Answer::Refused(r) => dag::code(r),
-        Answer::Derivable(n) => 1000 + (n as u32),
-        Answer::Underivable(n) => 2000 + (n as u32),
-        Answer::Exhausted(n) => 3000 + (n as u32),
+    match answer {
+        Ok(outcome) => outcome.into(),
+        Err(refusal) => refusal.into(),
     }
 }
 

@@ -1,4 +1,5 @@
 // The library for callers in C, on numbers and byte buffers: each function is the one of its name in `verdict`, with the same contract.
+// They stand in both crates, since a crate is a library or an archive for C.
 #![tactic(auto)]
 
 ghost use Rattle.std.specs.Prelude.{◌≡◌, ◌≤◌, length};

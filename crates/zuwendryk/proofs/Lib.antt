@@ -1,2 +1,3 @@
 pub mod Examples
-mod Front
+pub mod Passing
+mod Again

@@ -1,19 +1,19 @@
 -- Sets as bytes in the buffer's form.
--- Shown: how many bytes; which byte and bit a member is; what is written is read back; a word, and four words in turn, written; one byte more read; words from bytes.
+-- Shown: how many bytes; which byte and bit a member is; what is written is read back; the bytes of a word as the language's library has them; four words in turn, written and read.
 -- Assumes nothing.
 use mathlib.Core.Path.{◌≡◌, refl, sym, ap, ap₂, ◌∙◌}
-use mathlib.Core.Logic.{by_cases}
 use mathlib.Core.List.{List, [], ◌∷◌, ◌++◌, append_assoc, append-nil}
 use Prim.Native.Nat.{ℕ, zero, suc, ◌+◌, ◌-◌, ◌*◌, ◌/◌, ◌%◌, ◌^◌, ◌≤◌, ◌<◌}
-use native.Mathlib.Nat.{add_comm, add-suc, add_assoc, add-mul, zero-add, add-zero, suc-mul, zero-mul, mul_assoc, div-add-mod', mod-lt, mod-one, div-one, mul-one, div-div-eq-div-mul, le_trans, le_of_eq, lt_of_lt_of_le, lt_of_le_of_lt}
-use native.Mathlib.Decide.{dec_lt}
-use native.Mathlib.Numerals.{add-one, unary_clauses}
+use native.Mathlib.Nat.{add_comm, add-suc, add_assoc, add-mul, zero-add, add-zero, suc-mul, zero-mul, mul_assoc, div-add-mod', mod-lt, mod-one, div-one, mul-one, div-div-eq-div-mul, le_trans, le_of_eq, lt_of_lt_of_le}
+use native.Mathlib.Numerals.{add-one}
 use native.Mathlib.Omega.{arith}
 use lib.Arith.{digits_lt}
 use lib.Dec.{eqb}
-use lib.ListN.{length, get_or, take, drop, set, length-append, length-drop, length-take, drop_of_length-le, get_or-eq_default}
-use lib.Pow.{pow_pos, pow-add, pow_mono, mod-pow-add, mod-mod-pow, field}
-use lib.Seq.{sets, sets-eq, take_at, drop_at, drop-cons, get_or-take, get_or-drop, take-add, drop-drop, length-take-le}
+use lib.ListN.{length, get_or, take, drop, length-append, length-drop}
+use Rattle.std.specs.Int.{w64, to_le_bytes, from_le_bytes}
+use Rattle.std.specs.Simd.{first_chunks}
+use lib.Pow.{pow_pos, pow-add, mod-pow-add, mod-mod-pow, field}
+use lib.Seq.{take_at, drop_at, take-add, drop-drop, length-take-le}
 use Rattle.bitset.specs.Set.{member}
 use Rattle.bitset.specs.Words.{packed, value, set_of, byte_of, bytes_of}
 use Rattle.bitset.proofs.Laws.Place.{place_only}
@@ -69,34 +69,24 @@ set_of_bytes_of (suc n) s =
     ∙ sym (mod-pow-add s 8 (n * 8))
     ∙ ap (λ (x : ℕ). s % 2 ^ x) (add_comm 8 (n * 8) ∙ sym (suc-mul n 8))
 
--- eight bytes of a word stored at a place
-module _ (d : List ℕ) (at w : ℕ) (h : at + 8 ≤ length d) where
-  abbrev bytes : List ℕ
-  bytes = w % 2 ^ 8 ∷ byte_of w 1 ∷ byte_of w 2 ∷ byte_of w 3 ∷ byte_of w 4 ∷ byte_of w 5 ∷ byte_of w 6 ∷ byte_of w 7 ∷ []
+-- the bytes of a word, as the language's library writes and reads them
+pub word_bytes : (w : ℕ) → to_le_bytes w64 w ≡ bytes_of 8 w
+unfolding bytes_of byte_of
+word_bytes w = ap (λ (x : ℕ). x % 2 ^ 8 ∷ byte_of w 1 ∷ byte_of w 2 ∷ byte_of w 3 ∷ byte_of w 4 ∷ byte_of w 5 ∷ byte_of w 6 ∷ byte_of w 7 ∷ []) (sym (div-one w))
 
-  bytes_of_lem : bytes ≡ bytes_of 8 w
-  unfolding bytes_of byte_of
-  bytes_of_lem = ap (λ (x : ℕ). x % 2 ^ 8 ∷ byte_of w 1 ∷ byte_of w 2 ∷ byte_of w 3 ∷ byte_of w 4 ∷ byte_of w 5 ∷ byte_of w 6 ∷ byte_of w 7 ∷ []) (sym (div-one w))
-
-  abbrev stores : List ℕ
-  stores =
-      set (set (set (set (set (set (set (set d at (w % 2 ^ 8)) (at + 1) (byte_of w 1)) (at + 2) (byte_of w 2)) (at + 3) (byte_of w 3)) (at + 4) (byte_of w 4)) (at + 5) (byte_of w 5))
-      (at + 6) (byte_of w 6)) (at + 7) (byte_of w 7)
-
-  in_a_row : stores ≡ sets d at bytes
-  in_a_row = simp unary_clauses refl
-
-  pub word_stored : stores ≡ take at d ++ (bytes_of 8 w ++ drop (at + 8) d)
-  word_stored = in_a_row ∙ sets-eq bytes d at h ∙ append_assoc (take at d) bytes (drop (at + 8) d) ∙ ap (λ (l : List ℕ). take at d ++ (l ++ drop (at + 8) d)) bytes_of_lem
+pub bytes_word : (b : List ℕ) → length b ≡ 8 → from_le_bytes w64 b ≡ set_of b
+unfolding packed
+bytes_word (b0 ∷ b1 ∷ b2 ∷ b3 ∷ b4 ∷ b5 ∷ b6 ∷ b7 ∷ []) l = omega arith
+bytes_word b l = absurd (omega arith)
 
 -- the bytes of the first words, and of one word more
 module _ (ws : List ℕ) (h : Below 64 ws) where
-  bytes_word : (q k : ℕ) → k ≤ 8 → bytes_of (q * 8 + k) (value ws) ≡ bytes_of (q * 8) (value ws) ++ bytes_of k (get_or ws q 0)
+  bytes_more : (q k : ℕ) → k ≤ 8 → bytes_of (q * 8 + k) (value ws) ≡ bytes_of (q * 8) (value ws) ++ bytes_of k (get_or ws q 0)
   unfolding bytes_of byte_of
-  bytes_word q zero l = ap (λ (n : ℕ). bytes_of n (value ws)) (add-zero (q * 8)) ∙ sym (append-nil (bytes_of (q * 8) (value ws)))
-  bytes_word q (suc k) l =
+  bytes_more q zero l = ap (λ (n : ℕ). bytes_of n (value ws)) (add-zero (q * 8)) ∙ sym (append-nil (bytes_of (q * 8) (value ws)))
+  bytes_more q (suc k) l =
       ap (λ (n : ℕ). bytes_of n (value ws)) (add-suc (q * 8) k)
-      ∙ ap₂ (λ (a : List ℕ) (b : ℕ). a ++ (b ∷ [])) (bytes_word q k (omega arith)) (value_byte ws h (q * 8 + k) ∙ ap₂ (λ (a b : ℕ). get_or ws a 0 / 2 ^ (b * 8) % 2 ^ 8) place.0 place.1)
+      ∙ ap₂ (λ (a : List ℕ) (b : ℕ). a ++ (b ∷ [])) (bytes_more q k (omega arith)) (value_byte ws h (q * 8 + k) ∙ ap₂ (λ (a b : ℕ). get_or ws a 0 / 2 ^ (b * 8) % 2 ^ 8) place.0 place.1)
       ∙ append_assoc (bytes_of (q * 8) (value ws)) (bytes_of k (get_or ws q 0)) (byte_of (get_or ws q 0) k ∷ [])
     where
       place : ((q * 8 + k) / 8 ≡ q) × ((q * 8 + k) % 8 ≡ k)
@@ -112,23 +102,13 @@ module _ (ws : List ℕ) (h : Below 64 ws) where
       ∙ ap₂ (λ (a b : List ℕ). a ++ (bytes_of 8 (get_or ws q 0) ++ b)) (take_at first (drop (q * 8) d) (q * 8) n)
       (sym (drop-drop 8 (q * 8) (first ++ drop (q * 8) d)) ∙ ap (drop 8) (drop_at first (drop (q * 8) d) (q * 8) n) ∙ drop-drop 8 (q * 8) d)
       ∙ sym (append_assoc first (bytes_of 8 (get_or ws q 0)) (drop (q * 8 + 8) d))
-      ∙ ap (λ (l : List ℕ). l ++ drop (q * 8 + 8) d) (sym (bytes_word q 8 (omega arith)))
+      ∙ ap (λ (l : List ℕ). l ++ drop (q * 8 + 8) d) (sym (bytes_more q 8 (omega arith)))
 
   -- four words in turn
   pub front_four : (d : List ℕ) {d₁ d₂ d₃ d₄ : List ℕ} → d₁ ≡ take 0 d ++ (bytes_of 8 (get_or ws 0 0) ++ drop 8 d) → d₂ ≡ take 8 d₁ ++ (bytes_of 8 (get_or ws 1 0) ++ drop 16 d₁)
       → d₃ ≡ take 16 d₂ ++ (bytes_of 8 (get_or ws 2 0) ++ drop 24 d₂) → d₄ ≡ take 24 d₃ ++ (bytes_of 8 (get_or ws 3 0) ++ drop 32 d₃) → d₄ ≡ bytes_of 32 (value ws) ++ drop 32 d
   unfolding bytes_of
   front_four d {d₁} {d₂} {d₃} p₁ p₂ p₃ p₄ = p₄ ∙ front_more 3 d d₃ (p₃ ∙ front_more 2 d d₂ (p₂ ∙ front_more 1 d d₁ (p₁ ∙ front_more 0 d d refl)))
-
--- a part of a list of small digits
-below_drop : (k : ℕ) (l : List ℕ) → Below k l → (n : ℕ) → Below k (drop n l)
-below_drop k l h n j = lt_of_le_of_lt (le_of_eq (get_or-drop n l j 0)) (h (n + j))
-
-below_take : (k : ℕ) (l : List ℕ) → Below k l → (n : ℕ) → Below k (take n l)
-below_take k l h n j = by_cases (dec_lt j n) (λ p. lt_of_le_of_lt (le_of_eq (get_or-take n l j 0 p)) (h j)) (λ p. lt_of_le_of_lt (le_of_eq (past p)) (pow_pos k))
-  where
-    past : ¬ (j < n) → get_or (take n l) j 0 ≡ 0
-    past p = get_or-eq_default (take n l) 0 (le_trans (le_of_eq (length-take n l)) (omega arith))
 
 -- the eight bytes from a place on
 abbrev pub eight : List ℕ → ℕ → List ℕ
@@ -140,27 +120,6 @@ module _ (b : List ℕ) (at : ℕ) (h : at + 8 ≤ length b) where
     where
       room : (n : ℕ) → at + 8 ≤ n → 8 ≤ n - at
       room n q = omega arith
-
-  -- as a word: one byte more, from the back
-  pub word_more : (i : ℕ) → i < 8 → set_of (drop (suc i) (eight b at)) * 256 + get_or b (at + i) 0 ≡ set_of (drop i (eight b at))
-  unfolding packed
-  word_more i l =
-      ap (λ (x : ℕ). set_of (drop (suc i) (eight b at)) * 256 + x) (sym (get_or-take 8 (drop at b) i 0 l ∙ get_or-drop at b i 0))
-      ∙ sym (ap set_of (drop-cons (eight b at) i 0 (lt_of_lt_of_le l (le_of_eq (sym length_eight)))))
-
-  pub word_end : 0 ≡ set_of (drop 8 (eight b at))
-  unfolding packed
-  word_end = sym (ap set_of (drop_of_length-le (eight b at) (le_of_eq length_eight)))
-
-  -- with a byte yet to come, it is below 2^56
-  pub word_room : Below 8 b → (i : ℕ) → 0 < i → set_of (drop i (eight b at)) < 2 ^ 56
-  word_room k i l = lt_of_lt_of_le (packed_lt 8 (drop i (eight b at)) below) (pow_mono (few (length-drop i (eight b at)) length_eight))
-    where
-      few : length (drop i (eight b at)) ≡ length (eight b at) - i → length (eight b at) ≡ 8 → length (drop i (eight b at)) * 8 ≤ 56
-      few p q = omega arith
-
-      below : Below 8 (drop i (eight b at))
-      below = below_drop 8 (eight b at) (below_take 8 (drop at b) (below_drop 8 b k at) 8) i
 
 -- eight bytes, and the bytes after them
 chunk : (n : ℕ) (b : List ℕ) (at : ℕ) → at + 8 ≤ length b → set_of (take (8 + n) (drop at b)) ≡ set_of (take n (drop (at + 8) b)) * 2 ^ 64 + set_of (eight b at)
@@ -179,3 +138,31 @@ words_bytes b h =
     ∙ ap (λ (x : ℕ). x * 2 ^ 64 + set_of (eight b 0))
     (chunk 16 b 8 (omega arith)
     ∙ ap (λ (x : ℕ). x * 2 ^ 64 + set_of (eight b 8)) (chunk 8 b 16 (omega arith) ∙ ap (λ (x : ℕ). x * 2 ^ 64 + set_of (eight b 16)) (sym (zero-add (set_of (eight b 24)))))))
+
+-- the first four chunks of eight bytes, and the words that they are
+four_chunks : (b : List ℕ) (n : ℕ) (d : List ℕ) → 4 ≤ n → (get_or (first_chunks 8 n b) 0 d ≡ eight b 0) × (get_or (first_chunks 8 n b) 1 d ≡ eight b 8)
+    × (get_or (first_chunks 8 n b) 2 d ≡ eight b 16) × (get_or (first_chunks 8 n b) 3 d ≡ eight b 24)
+four_chunks b zero d l = absurd (omega arith)
+four_chunks b (suc zero) d l = absurd (omega arith)
+four_chunks b (suc (suc zero)) d l = absurd (omega arith)
+four_chunks b (suc (suc (suc zero))) d l = absurd (omega arith)
+four_chunks b (suc (suc (suc (suc n)))) d l = (refl, refl, ap (take 8) (drop-drop 8 8 b), ap (take 8) (ap (drop 8) (drop-drop 8 8 b) ∙ drop-drop 8 16 b))
+
+pub words_read : (b : List ℕ) (cs : List (List ℕ)) (d : List ℕ) {w0 w1 w2 w3 : ℕ} → cs ≡ first_chunks 8 (length b / 8) b → 4 ≤ length b / 8 → w0 ≡ from_le_bytes w64 (get_or cs 0 d)
+    → w1 ≡ from_le_bytes w64 (get_or cs 1 d) → w2 ≡ from_le_bytes w64 (get_or cs 2 d) → w3 ≡ from_le_bytes w64 (get_or cs 3 d) → value (w0 ∷ w1 ∷ w2 ∷ w3 ∷ []) ≡ set_of (take 32 b)
+words_read b cs d {w0} {w1} {w2} {w3} e l p0 p1 p2 p3 = ap value (simp (q0, q1, q2, q3) refl) ∙ words_bytes b (omega arith)
+  where
+    word : (at k : ℕ) {w : ℕ} → at + 8 ≤ length b → get_or (first_chunks 8 (length b / 8) b) k d ≡ eight b at → w ≡ from_le_bytes w64 (get_or cs k d) → w ≡ set_of (eight b at)
+    word at k h q p = p ∙ ap (λ (x : List (List ℕ)). from_le_bytes w64 (get_or x k d)) e ∙ ap (from_le_bytes w64) q ∙ bytes_word (eight b at) (length_eight b at h)
+
+    q0 : w0 ≡ set_of (eight b 0)
+    q0 = word 0 0 (omega arith) (four_chunks b (length b / 8) d l).0 p0
+
+    q1 : w1 ≡ set_of (eight b 8)
+    q1 = word 8 1 (omega arith) (four_chunks b (length b / 8) d l).1 p1
+
+    q2 : w2 ≡ set_of (eight b 16)
+    q2 = word 16 2 (omega arith) (four_chunks b (length b / 8) d l).2 p2
+
+    q3 : w3 ≡ set_of (eight b 24)
+    q3 = word 24 3 (omega arith) (four_chunks b (length b / 8) d l).3 p3

@@ -15,7 +15,7 @@ use lib.Dec.{eqb}
 use lib.ListN.{get_or}
 use Rattle.bitset.specs.Set.{member}
 use Rattle.bitset.specs.Words.{value}
-use Rattle.bitset.specs.Inner.{LowestOf}
+use Rattle.bitset.specs.Inner.{IsLowest}
 use Rattle.bitset.proofs.Laws.Member.{bit_cases, member_zero, member_suc, member_empty}
 use Rattle.bitset.proofs.Laws.Words.{Below}
 use Rattle.bitset.proofs.Laws.Sums.{half_power, even_power}
@@ -96,26 +96,32 @@ module _ (w : ℕ) (p : 0 < w) (h : w < 2 ^ 64) where
   pub rest_less : bit_xor w (2 ^ count_trailing_zeros 64 w) < w
   rest_less = let q = rest_sum in let l = and_le_r w (w - 1) in omega arith
 
+-- the first words are 0
+pub zero_none : (ws : List ℕ) (i : ℕ) → i < 0 → get_or ws i 0 ≡ 0
+zero_none ws i l = absurd (not-suc-le-zero l)
+
+pub zero_more : (ws : List ℕ) (q : ℕ) → ((i : ℕ) → i < q → get_or ws i 0 ≡ 0) → get_or ws q 0 ≡ 0 → (i : ℕ) → i < suc q → get_or ws i 0 ≡ 0
+zero_more ws q z e i l = by_cases (dec_lt i q) (z i) (λ f. let p : i ≡ q = omega arith in ap (λ (x : ℕ). get_or ws x 0) p ∙ e)
+
 -- the lowest member of the set that four words hold lies in the first word that isn't 0
 module _ (ws : List ℕ) (h : Below 64 ws) where
-  pub lowest_at : (q : ℕ) → q < 4 → 0 < get_or ws q 0 → ((i : ℕ) → i < q → get_or ws i 0 ≡ 0) → LowestOf (value ws) 256 (count_trailing_zeros 64 (get_or ws q 0) + q * 64)
+  pub lowest_at : (q : ℕ) → q < 4 → 0 < get_or ws q 0 → ((i : ℕ) → i < q → get_or ws i 0 ≡ 0) → IsLowest (value ws) (q * 64 + count_trailing_zeros 64 (get_or ws q 0))
   lowest_at q l p z =
       record {
-        within = omega (arith, lowest_within (get_or ws q 0) p (h q));
-        own = λ _. word_member ws h (count_trailing_zeros 64 (get_or ws q 0) + q * 64) ∙ ap₂ (λ (x y : ℕ). member (get_or ws x 0) y) word place ∙ lowest_own (get_or ws q 0) p (h q);
+        own = word_member ws h (q * 64 + count_trailing_zeros 64 (get_or ws q 0)) ∙ ap₂ (λ (x y : ℕ). member (get_or ws x 0) y) word place ∙ lowest_own (get_or ws q 0) p (h q);
         none = none;
       }
     where
       small : count_trailing_zeros 64 (get_or ws q 0) < 64
       small = lowest_within (get_or ws q 0) p (h q)
 
-      word : (count_trailing_zeros 64 (get_or ws q 0) + q * 64) / 64 ≡ q
+      word : (q * 64 + count_trailing_zeros 64 (get_or ws q 0)) / 64 ≡ q
       word = let s = small in omega arith
 
-      place : (count_trailing_zeros 64 (get_or ws q 0) + q * 64) % 64 ≡ count_trailing_zeros 64 (get_or ws q 0)
+      place : (q * 64 + count_trailing_zeros 64 (get_or ws q 0)) % 64 ≡ count_trailing_zeros 64 (get_or ws q 0)
       place = let s = small in omega arith
 
-      none : (k : ℕ) → k < count_trailing_zeros 64 (get_or ws q 0) + q * 64 → member (value ws) k ≡ false
+      none : (k : ℕ) → k < q * 64 + count_trailing_zeros 64 (get_or ws q 0) → member (value ws) k ≡ false
       none k m = word_member ws h k ∙ by_cases (dec_lt (k / 64) q) under (λ f. here (omega (arith, small)))
         where
           under : k / 64 < q → member (get_or ws (k / 64) 0) (k % 64) ≡ false
@@ -123,11 +129,3 @@ module _ (ws : List ℕ) (h : Below 64 ws) where
 
           here : k / 64 ≡ q → member (get_or ws (k / 64) 0) (k % 64) ≡ false
           here e = ap (λ (x : ℕ). member (get_or ws x 0) (k % 64)) e ∙ lowest_none (get_or ws q 0) p (h q) (k % 64) (omega arith)
-
-  pub lowest_nothing : ((i : ℕ) → i < 4 → get_or ws i 0 ≡ 0) → LowestOf (value ws) 256 256
-  lowest_nothing z =
-      record {
-        within = omega arith;
-        own = λ l. absurd (omega arith);
-        none = λ k l. word_member ws h k ∙ ap (λ (x : ℕ). member x (k % 64)) (z (k / 64) (omega arith)) ∙ member_empty (k % 64);
-      }

@@ -2,16 +2,16 @@
 -- Shown: a part of at most 64 bits that lies in one word is that word's; so are members and bytes; the sum is word by word; a list is
 -- known by its value; words of zeros, and one word set among them; the leading entry and the count of members. Assumes nothing.
 use mathlib.Core.Path.{◌≡◌, refl, sym, ap, ap₂, ◌∙◌}
-use mathlib.Core.Bool.{false, cond}
-use mathlib.Core.Logic.{by_cases}
+use mathlib.Core.Bool.{Bool, true, false, cond}
 use mathlib.Core.List.{List, [], ◌∷◌, ◌++◌}
 use Prim.Native.Nat.{ℕ, zero, suc, ◌+◌, ◌-◌, ◌*◌, ◌/◌, ◌%◌, ◌^◌, ◌≤◌, ◌<◌}
 use native.Mathlib.Nat.{zero-div, suc-mul, zero-mul, zero-add, mul_assoc, div-div-eq-div-mul, mul-add-mod_self_right, add_comm, add-mul, one-mul, mod-eq_of_lt, mul-le-mul_right, le_of_suc-le-suc, le_trans, le_of_eq, le-add_right, lt_of_lt_of_le, suc-add, div-add-mod', mod-lt}
-use native.Mathlib.Decide.{ℕ_discrete}
 use native.Mathlib.Omega.{arith}
 use lib.Bits.{bit_xor, xor_block, xor_zero_l, xor_zero_r}
 use lib.Pow.{pow_pos, pow-lt, pow-add, high, low, field}
 use lib.Dec.{eqb}
+use lib.Pointwise.{pointwise}
+use Rattle.std.specs.Cmp.Lexicographic.{same_text, other_text}
 use borrow.Author.Tests.{eq-eqb, ne_eqb}
 use lib.ListN.{length, get_or, set}
 use Rattle.bitset.specs.Words.{packed, value, byte_of}
@@ -159,6 +159,9 @@ pub value_zero : value (0 ∷ 0 ∷ 0 ∷ 0 ∷ []) ≡ 0
 unfolding packed
 value_zero = refl
 
+pub value_empty : (s : List ℕ) → length s ≡ 4 → get_or s 0 0 ≡ 0 → get_or s 1 0 ≡ 0 → get_or s 2 0 ≡ 0 → get_or s 3 0 ≡ 0 → value s ≡ 0
+value_empty s l p q r t = ap value (four s l ∙ simp (p, q, r, t)) ∙ value_zero
+
 -- one bit among four words of zeros
 pub value_single : (w b : ℕ) → w < 4 → b < 64 → (x₀ x₁ x₂ x₃ : ℕ) → x₀ ≡ cond (eqb w 0) (1 * 2 ^ b % 2 ^ 64) 0 → x₁ ≡ cond (eqb w 1) (1 * 2 ^ b % 2 ^ 64) 0
     → x₂ ≡ cond (eqb w 2) (1 * 2 ^ b % 2 ^ 64) 0 → x₃ ≡ cond (eqb w 3) (1 * 2 ^ b % 2 ^ 64) 0 → value (x₀ ∷ x₁ ∷ x₂ ∷ x₃ ∷ []) ≡ 2 ^ (w * 64 + b)
@@ -182,17 +185,7 @@ pub value_sum : (a b : List ℕ) → length a ≡ 4 → length b ≡ 4 → Below
 value_sum a b la lb ha hb =
     ap₂ (λ (x y : List ℕ). value (xor_digits 64 x y)) (sym (four a la)) (sym (four b lb)) ∙ packed_sum 64 a b ha hb
 
--- lists of four words that differ in a word hold different sets
-pub value_differs : (a b : List ℕ) → length a ≡ 4 → length b ≡ 4 → Below 64 a → Below 64 b → (i : ℕ) → (get_or a i 0 ≡ get_or b i 0 → ⊥) → eqb (value a) (value b) ≡ false
-value_differs a b la lb ha hb i d = ne_eqb (value a) (value b) (λ p. d (ap (λ (l : List ℕ). get_or l i 0) (packed_injective 64 a b (la ∙ sym lb) ha hb p)))
-
--- where three words are equal the last one decides
-pub value_agrees : (a b : List ℕ) → length a ≡ 4 → length b ≡ 4 → Below 64 a → Below 64 b → get_or a 0 0 ≡ get_or b 0 0 → get_or a 1 0 ≡ get_or b 1 0
-    → get_or a 2 0 ≡ get_or b 2 0 → eqb (get_or a 3 0) (get_or b 3 0) ≡ eqb (value a) (value b)
-value_agrees a b la lb ha hb e0 e1 e2 = by_cases (ℕ_discrete (get_or a 3 0) (get_or b 3 0)) same differ
-  where
-    same : get_or a 3 0 ≡ get_or b 3 0 → eqb (get_or a 3 0) (get_or b 3 0) ≡ eqb (value a) (value b)
-    same e3 = eq-eqb (get_or a 3 0) (get_or b 3 0) e3 ∙ sym (eq-eqb (value a) (value b) (ap value (four a la ∙ (simp (e0, e1, e2, e3)) ∙ sym (four b lb))))
-
-    differ : (get_or a 3 0 ≡ get_or b 3 0 → ⊥) → eqb (get_or a 3 0) (get_or b 3 0) ≡ eqb (value a) (value b)
-    differ d = ne_eqb (get_or a 3 0) (get_or b 3 0) d ∙ sym (value_differs a b la lb ha hb 3 d)
+-- two lists of as many words hold one set exactly when they are equal
+pub value_equal : (a b : List ℕ) → length a ≡ length b → Below 64 a → Below 64 b → (r : Bool) → r ≡ pointwise eqb a b → r ≡ eqb (value a) (value b)
+value_equal a b l ha hb true p = sym (eq-eqb (value a) (value b) (ap value (same_text a b p)))
+value_equal a b l ha hb false p = sym (ne_eqb (value a) (value b) (λ q. other_text a b p (packed_injective 64 a b l ha hb q)))

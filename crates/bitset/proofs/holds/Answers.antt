@@ -8,6 +8,5 @@ use Rattle.bitset.proofs.Laws.Words.{value_member}
 use Rattle.bitset.proofs.holds.Goals as goal
 
 pub returns : goal.returns
-returns c = λ h. let a = c.before.before.before in let w = c.before.before.word_of in let b = c.bit_of in
-    sym (value_member a.args.s.now h.below w.result b.result (omega arith))
-    ∙ ap (member (value a.args.s.now)) (place_back 6 a.args.e w.result b.result w.ensures b.ensures)
+returns c = let s = c.args.s.now in let w = c.word_of in let b = c.bit_of in
+    sym (value_member s c.fits-s w.result b.result (omega arith)) ∙ ap (member (value s)) (place_back 6 c.args.e w.result b.result w.ensures b.ensures)

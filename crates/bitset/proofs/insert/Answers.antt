@@ -10,4 +10,4 @@ use Rattle.bitset.proofs.insert.Goals as goal
 pub returns : goal.returns
 returns c = let s = value c.args.s in let e = c.args.e in
     same_members (value c.union.result) (insert s e)
-    (λ k. c.union.ensures k ∙ ap (λ (b : Bool). member s k || b) (ap (λ (x : ℕ). member x k) c.before.singleton.ensures ∙ member_single e k) ∙ sym (member_insert s e k))
+    (λ k. c.union.ensures k ∙ ap (λ (b : Bool). member s k || b) (ap (λ (x : ℕ). member x k) c.singleton.ensures ∙ member_single e k) ∙ sym (member_insert s e k))

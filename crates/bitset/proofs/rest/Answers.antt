@@ -4,14 +4,10 @@ use mathlib.Core.Bool.{Bool, cond}
 use native.Mathlib.Omega.{arith}
 use lib.Bits.{bit_xor}
 use lib.Count.{count_trailing_zeros}
-use borrow.Author.Tests.{eq-eqb, ne_eqb}
+use borrow.Author.Tests.{ne_eqb}
 use Rattle.bitset.specs.Set.{single}
 use Rattle.bitset.proofs.Laws.Lowest.{rest_sum}
 use Rattle.bitset.proofs.rest.Goals as goal
-
-pub returns-then-w-eq0 : goal.returns-then-w-eq0
-returns-then-w-eq0 c = let w = c.args.w in
-    sym (ap (λ (b : Bool). cond b 0 (bit_xor w (single (count_trailing_zeros 64 w)))) (eq-eqb w 0 c.if-w-eq0.true))
 
 pub returns : goal.returns
 returns c = let w = c.args.w in

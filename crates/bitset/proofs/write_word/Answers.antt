@@ -1,13 +1,13 @@
--- `bitset::write_word` meets its contract: eight stores.
-use lib.ListN.{length-set}
-use borrow.Author.Rules.{rules}
-use Rattle.bitset.specs.Words.{byte_of}
-use Rattle.bitset.proofs.Laws.Bytes.{word_stored}
+-- `bitset::write_word` meets its contract: the eight bytes stand in the place of eight.
+use mathlib.Core.Path.{ap₂, ◌∙◌}
+use mathlib.Core.List.{List, ◌++◌}
+use Prim.Native.Nat.{ℕ, ◌+◌}
+use native.Mathlib.Omega.{arith}
+use lib.ListN.{take}
+use borrow.Rule.Slice.PartMut.{Post-is}
+use Rattle.bitset.proofs.Laws.Bytes.{word_bytes}
 use Rattle.bitset.proofs.write_word.Goals as goal
 
-pub shape_of-out : goal.shape_of-out
-shape_of-out c = simp length-set
-
 pub returns : goal.returns
-unfolding byte_of
-returns c = word_stored c.args.out.now c.args.at c.args.w (search rules)
+returns c = let d = c.args.out.now in let at = c.args.at in
+    ap₂ (λ (x y : List ℕ). take at d ++ (x ++ y)) (c.copy_from_slice.ensures.after ∙ c.to_le_bytes-bytes.ensures ∙ word_bytes c.args.w) (Post-is at (at + 8) d (omega arith))

@@ -5,9 +5,11 @@ use mathlib.Core.Path.{◌≡◌, refl, sym, ap, ap₂, ◌∙◌, subst}
 use mathlib.Core.Bool.{true}
 use mathlib.Core.Logic.{by_cases}
 use mathlib.Core.List.{List, Memᴰ}
+use Rattle.std.proofs.Common.{Option, Some, None, unwrap_or}
+use Rattle.std.specs.Option.{option_map_or}
 use Prim.Native.Nat.{ℕ, ◌^◌, ◌≤◌, ◌<◌}
 use native.Mathlib.Nat.{le_refl, lt-suc_self}
-use native.Mathlib.Decide.{ℕ_discrete, dec_lt}
+use native.Mathlib.Decide.{ℕ_discrete}
 use native.Mathlib.Omega.{arith}
 use lib.Dec.{eqb}
 use lib.ListN.{length}
@@ -20,7 +22,7 @@ use Rattle.bitset.proofs.Laws.Leading.{leading_between}
 use Rattle.bitset.proofs.Laws.Member.{member_single}
 use Rattle.deduction.specs.Entry.{Entry, parts, Downward}
 use Rattle.deduction.specs.Standard.{least, first_alike, xor_all, set_at, rep_at}
-use Rattle.deduction.proofs.Standard.{rep_le, rep_set, rep_of_set}
+use Rattle.deduction.proofs.Standard.{rep_set, rep_of_set}
 use Rattle.deduction.proofs.Standard.Least.{least_same}
 use Rattle.deduction.proofs.Standard.Sets.{set_at_build, xor_all_same}
 use Rattle.deduction.proofs.Standard.First.{first, set_first}
@@ -32,8 +34,9 @@ use Rattle.dag.proofs.Laws.Parts.{item_listed}
 use Rattle.dag.proofs.Laws.Good.{Good, good}
 use Rattle.canonical.specs.Inner.Key.{key_of, key_at}
 use Rattle.canonical.specs.Inner.Tables.{set_in, number_in, RightLine, Right}
-use Rattle.canonical.specs.Inner.Buckets.{key_bucket, set_bucket, Bucketed, Alone, Candidates}
+use Rattle.canonical.specs.Inner.Buckets.{key_bucket, set_bucket, Bucketed, Alone, Candidates, FoundIn}
 use Rattle.canonical.proofs.Laws.Key.{Narrow, key_same, key_alike, key_plain}
+use Rattle.canonical.proofs.Laws.Search.{found_below, found_least}
 use Rattle.canonical.proofs.Laws.Record.{Bytes, items_parts, parts_set, narrow_bytes}
 
 -- the tables are right for the entries before i
@@ -135,12 +138,11 @@ module _ {s : List ℕ} {i : ℕ} {keys : List ℕ} {sets : List (List ℕ)} {re
   pub items_below : {k : ℕ} → k ≡ key_of (number_in reps) (decode r) → k ≡ 0 → (j : ℕ) → j < item_count r → item_at r j < 256
   items_below p z j l = parts_below (item_at r j) (subst (Memᴰ (item_at r j)) (sym (items (sym p ∙ z))) (item_listed (item_at r) (item_count r) j l))
 
-  -- the searches
-  pub key_sought : {k : ℕ} → ¬ (k ≡ 0) → Candidates (λ j. eqb (number_in keys j) k) i (set_in buckets (key_bucket k))
-  key_sought = key_candidates (entry_at s) (count_of s) down few narrow i g.within keys sets reps g.right buckets g.bucketed
-
-  pub set_sought : (ws : List ℕ) → FourWords ws → ¬ Alone (value ws) → Candidates (λ j. eqb (set_in sets j) (value ws)) i (set_in buckets (set_bucket ws))
-  set_sought = set_candidates (entry_at s) (count_of s) down few narrow i g.within keys sets reps g.right buckets g.bucketed
+  -- the search for a set, in its bucket
+  pub set_sought : (ws : List ℕ) {at : ℕ} → FourWords ws → at ≡ set_bucket ws → ¬ Alone (value ws) → Candidates (λ j. eqb (set_in sets j) (value ws)) i (set_in buckets at)
+  set_sought ws four p f =
+      subst (λ (x : ℕ). Candidates (λ j. eqb (set_in sets j) (value ws)) i (set_in buckets x)) (sym p)
+      (set_candidates (entry_at s) (count_of s) down few narrow i g.within keys sets reps g.right buckets g.bucketed ws four f)
 
   -- zero and sums
   pub sum_line : {k rep : ℕ} {set : List ℕ} → k ≡ key_of (number_in reps) (decode r) → k ≡ 0 → value set ≡ xor_all (set_in sets) (listed (item_at r) (item_count r))
@@ -164,18 +166,25 @@ module _ {s : List ℕ} {i : ℕ} {keys : List ℕ} {sets : List (List ℕ)} {re
       q ∙ ap (λ (x : ℕ). least (λ j. eqb (number_in keys j) x) i) (key_right_lem p)
       ∙ line_first (entry_at s) (count_of s) down few narrow i g.within keys sets reps g.right (λ w. z (key_right_lem p ∙ w))
 
-  pub standard_line : {k f : ℕ} {set : List ℕ} → k ≡ key_of (number_in reps) (decode r) → ¬ (k ≡ 0) → f ≡ least (λ j. eqb (number_in keys j) k) i
-      → (f < i → value set ≡ set_in sets f) → (i ≤ f → value set ≡ 2 ^ i) → RightLine (entry_at s) i k set f
-  standard_line {f = f} {set = set} p z q found new =
-      record { key = key_right_lem p; set = by_cases (dec_lt f i) (λ l. earlier l) (λ l. alone (omega arith)); rep = first_right p z q }
+  -- first is what the search for the key gives, in its bucket
+  pub standard_line : {k at rep : ℕ} {first : Option ℕ} {set : List ℕ} → k ≡ key_of (number_in reps) (decode r) → ¬ (k ≡ 0) → at ≡ key_bucket k
+      → FoundIn (λ j. eqb (number_in keys j) k) (set_in buckets at) first → rep ≡ unwrap_or first i → value set ≡ option_map_or (set_in sets) first (2 ^ i) → RightLine (entry_at s) i k set rep
+  standard_line {k = k} {rep = rep} {first = first} {set = set} p z b f q v = record { key = key_right_lem p; set = alike first refl; rep = right }
     where
-      earlier : f < i → value set ≡ set_at (entry_at s) i
-      earlier l =
-          found l ∙ ap (set_in sets) (first_right p z q)
-          ∙ line_found (entry_at s) (count_of s) down few narrow i g.within keys sets reps g.right (subst (λ (x : ℕ). x < i) (first_right p z q) l)
+      c : Candidates (λ j. eqb (number_in keys j) k) i (set_in buckets (key_bucket k))
+      c = key_candidates (entry_at s) (count_of s) down few narrow i g.within keys sets reps g.right buckets g.bucketed z
 
-      alone : i ≤ f → value set ≡ set_at (entry_at s) i
-      alone l =
-          new l
-          ∙ line_new (entry_at s) (count_of s) down few narrow i g.within keys sets reps g.right (λ w. z (key_right_lem p ∙ w))
-          (omega (arith, first_right p z q, rep_le (entry_at s) i))
+      found : FoundIn (λ j. eqb (number_in keys j) k) (set_in buckets (key_bucket k)) first
+      found = subst (λ (x : ℕ). FoundIn (λ j. eqb (number_in keys j) k) (set_in buckets x) first) b f
+
+      right : rep ≡ rep_at (entry_at s) i
+      right = q ∙ first_right p z (found_least c found (omega (arith, few, g.within)))
+
+      alike : (o : Option ℕ) → first ≡ o → value set ≡ set_at (entry_at s) i
+      alike (Some j) e =
+          let same : rep ≡ j = q ∙ ap (λ (x : Option ℕ). unwrap_or x i) e in
+          v ∙ ap (λ (x : Option ℕ). option_map_or (set_in sets) x (2 ^ i)) e ∙ ap (set_in sets) (sym same ∙ right)
+          ∙ line_found (entry_at s) (count_of s) down few narrow i g.within keys sets reps g.right (subst (λ (x : ℕ). x < i) (sym same ∙ right) (found_below c found j e))
+      alike None e =
+          v ∙ ap (λ (x : Option ℕ). option_map_or (set_in sets) x (2 ^ i)) e
+          ∙ line_new (entry_at s) (count_of s) down few narrow i g.within keys sets reps g.right (λ w. z (key_right_lem p ∙ w)) (sym right ∙ q ∙ ap (λ (x : Option ℕ). unwrap_or x i) e)

@@ -6,6 +6,7 @@ use mathlib.Core.Path.{◌≡◌, refl, sym, ap, ap₂, ◌∙◌, subst}
 use mathlib.Core.Bool.{Bool, true, false, cond, ◌&&◌}
 use mathlib.Core.Logic.{◌⊎◌, inl, inr, by_cases}
 use mathlib.Core.List.{List, Memᴰ}
+use Rattle.std.proofs.Common.{Option, unwrap_or}
 use Prim.Native.Nat.{ℕ, ◌+◌, ◌*◌, ◌^◌, ◌≤◌, ◌<◌}
 use native.Mathlib.Decide.{dec_lt}
 use native.Mathlib.Omega.{arith}
@@ -31,9 +32,10 @@ use Rattle.dag.specs.Refusal.{refusal}
 use Rattle.dag.proofs.Laws.Good.{Good, good}
 use Rattle.canonical.specs.Inner.Key.{key_of, key_at, key_kind, opposite_key, opener_of, open_key_at}
 use Rattle.canonical.specs.Inner.Tables.{set_in, number_in, sought_in, open_in}
-use Rattle.canonical.specs.Inner.Buckets.{key_bucket, Bucketed, Candidates}
+use Rattle.canonical.specs.Inner.Buckets.{key_bucket, Bucketed, Candidates, FoundIn}
 use Rattle.canonical.proofs.Laws.Key.{number_of, Narrow, number_kind, number_low, key_form, key_kind_lem}
 use Rattle.canonical.proofs.Laws.Record.{Bytes, narrow_bytes}
+use Rattle.canonical.proofs.Laws.Search.{found_least}
 
 -- the keys of the first i entries have what opens them, and those from i on are as they were
 pub record Opening (e : ℕ → Entry) (n i : ℕ) (keys : List ℕ) : Type 0 where
@@ -182,9 +184,14 @@ module _ (keys : List ℕ) (n key : ℕ) where
   unfolding open_in
   open_other p = sym (ap (λ (b : Bool). cond b (key + least (λ j. eqb (number_in keys j) (sought_in keys key)) n * 65536) key) (ne_eqb (key_kind key) 7 p))
 
-  pub open_lock : key_kind key ≡ 7 → key + least (λ j. eqb (number_in keys j) (sought_in keys key)) n * 65536 ≡ open_in keys n key
+  -- first is what a search for the key sought gives, in the bucket of that key
+  pub open_lock : key_kind key ≡ 7 → n ≤ 256 → (buckets : List (List ℕ)) {other at r : ℕ} {first : Option ℕ} → other ≡ sought_in keys key → at ≡ key_bucket other
+      → Candidates (λ j. eqb (number_in keys j) (sought_in keys key)) n (set_in buckets (key_bucket (sought_in keys key)))
+      → FoundIn (λ j. eqb (number_in keys j) other) (set_in buckets at) first → r ≡ unwrap_or first n → key + r * 65536 ≡ open_in keys n key
   unfolding open_in
-  open_lock p = sym (ap (λ (b : Bool). cond b (key + least (λ j. eqb (number_in keys j) (sought_in keys key)) n * 65536) key) (eq-eqb (key_kind key) 7 p))
+  open_lock p few buckets {other = other} {r = r} {first = first} q b c found e =
+      ap (λ (x : ℕ). key + x * 65536) (e ∙ found_least c (subst (λ (x : ℕ). FoundIn (λ j. eqb (number_in keys j) x) (set_in buckets (key_bucket x)) first) q (subst (λ (x : ℕ). FoundIn (λ j. eqb (number_in keys j) other) (set_in buckets x) first) b found)) few)
+      ∙ sym (ap (λ (b : Bool). cond b (key + least (λ j. eqb (number_in keys j) (sought_in keys key)) n * 65536) key) (eq-eqb (key_kind key) 7 p))
 
 -- a key leaves room for what opens it
 key_room : (rep : ℕ → ℕ) (d : Entry) → number_of d < 2 ^ 32 → ((j : ℕ) → Memᴰ j (parts d) → rep j < 256) → key_of rep d < 2 ^ 40

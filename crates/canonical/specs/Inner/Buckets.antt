@@ -1,7 +1,7 @@
 -- Buckets: 256 sets of entries, by which an entry with a given key or a given set is found without a search over all.
 -- Defined: `key_bucket` and `set_bucket`, the bucket of a key and of a set, and `bucket_of`, that of an entry; `Bucketed`, each of the first n entries is in its bucket; `JoinedAt`, an entry joined a bucket; `Alone`, a set of one
--- member; `Candidates`, a set in which a search finds what it looks for; `FoundIn`, what a search over one word of it finds.
-use Rattle.std.specs.Prelude.{◌≡◌, Bool, true, false, cond, List, [], ℕ, ◌+◌, ◌%◌, ◌<◌, eqb, length, get_or, set}
+-- member; `Candidates`, a set in which a search finds what it looks for; `Decides`, that a test is a given one; `FoundIn`, what a search finds.
+use Rattle.std.specs.Prelude.{◌≡◌, Bool, true, false, cond, Option, Some, unwrap_or, List, [], ℕ, ◌+◌, ◌%◌, ◌<◌, eqb, length, get_or, set}
 use Rattle.bitset.specs.Set.{member, insert, single, leading}
 use Rattle.bitset.specs.Words.{value}
 use Rattle.bitset.specs.Inner.{FourWords}
@@ -46,7 +46,11 @@ pub record Candidates (p : ℕ → Bool) (n s : ℕ) : Type 0 where
   pub every : (j : ℕ) → j < n → p j ≡ true → member s j ≡ true
   pub within : (j : ℕ) → member s j ≡ true → j < n
 
--- r is the first entry that passes the test among a word's members, which are entries from base on; 256 where none does
-pub record FoundIn (p : ℕ → Bool) (word base r : ℕ) : Type 0 where
-  pub own : ¬ (r ≡ 256) → (t : ℕ) × (r ≡ base + t) × (member word t ≡ true) × (p r ≡ true)
-  pub none : (t : ℕ) → member word t ≡ true → base + t < r → p (base + t) ≡ false
+-- the answers that a test may give at entries are those of p
+pub record Decides (gives : ℕ → Bool → Type 0) (p : ℕ → Bool) : Type 0 where
+  pub same : (k : ℕ) (b : Bool) → k < 256 → gives k b → b ≡ p k
+
+-- r is the lowest member of s that passes the test, if there is one
+pub record FoundIn (p : ℕ → Bool) (s : ℕ) (r : Option ℕ) : Type 0 where
+  pub own : (i : ℕ) → r ≡ Some i → (member s i ≡ true) × (p i ≡ true)
+  pub none : (k : ℕ) → member s k ≡ true → k < unwrap_or r 256 → p k ≡ false

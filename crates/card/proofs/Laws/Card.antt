@@ -14,7 +14,7 @@ use lib.ListN.{length, take, drop, length-drop}
 use Rattle.bitset.specs.Words.{set_of}
 use Rattle.bitset.proofs.Laws.Choice.{when_le}
 use Rattle.deduction.specs.Setting.{every}
-use Rattle.deduction.specs.Step.{Step}
+use Rattle.deduction.specs.Step.{Step, step}
 use Rattle.deduction.specs.Run.{Verdict, derivable, underivable, exhausted, Outcome, knowledge}
 use Rattle.dag.specs.Sheet.{number_at, goal_of, trace_length}
 use Rattle.dag.specs.Record.{entry_at}
@@ -26,10 +26,14 @@ use Rattle.verdict.specs.Buffer.{front, gained_in, read_step, steps_in}
 use Rattle.verdict.specs.Demands.{verdict_code}
 use Rattle.verdict.specs.Answer.{outcome_of, answer_of, buffer_of}
 use Rattle.verdict.proofs.Laws.Answered.{accepted, accepted_answer, accepted_few, accepted_known, accepted_steps, accepted_ends}
-use Rattle.line.specs.Line.{goal_line, out_line, reached_line, step_line, refused_line}
+use Rattle.line.specs.Line.{goal_line, out_line, reached_line, refused_line}
 use Rattle.card.specs.Card.{step_text, steps_text, verdict_text, cut_text, is_reached, cuts_from, card_of}
-use Rattle.line.specs.Buffer.{Appended}
-use Rattle.line.proofs.Laws.Buffer.{append_as, append_next, append_none}
+use Rattle.line.specs.declared.Rung.{Rung}
+use Rattle.line.specs.declared.Text.{Text}
+use Rattle.line.specs.Text.{Adds}
+use Rattle.line.proofs.Laws.Buffer.{append_none}
+use Rattle.line.proofs.Laws.Text.{adds_as, adds_next}
+use Rattle.card.specs.Buffer.{HasRoom, step_of}
 
 -- a rung's line, from the fields of its 40 bytes
 module _ (r : List ℕ) (long : 40 ≤ length r) where
@@ -43,10 +47,11 @@ module _ (r : List ℕ) (long : 40 ≤ length r) where
       ∙ ap (λ (l : List ℕ). cond (leb 32 (length l)) (set_of (take 32 l)) 0) (part_whole r 8)
       ∙ when_le 32 (length (drop 8 r)) (set_of (take 32 (drop 8 r))) 0 long_enough
 
-pub step_text_lem : (r : List ℕ) {head rule first second set : ℕ} → head ≡ number_at r 0 → rule ≡ number_at r 2 → first ≡ number_at r 4 → second ≡ number_at r 6
-    → set ≡ set_of (take 32 (drop 8 r)) → step_line head rule first second set ≡ step_text (read_step r)
+-- the step that is read from 40 bytes is the one of its fields
+pub step_read : (r : List ℕ) {head rule first second set : ℕ} → head ≡ number_at r 0 → rule ≡ number_at r 2 → first ≡ number_at r 4 → second ≡ number_at r 6
+    → set ≡ set_of (take 32 (drop 8 r)) → step head rule first second set ≡ read_step r
 unfolding read_step
-step_text_lem r p q f s u = λ i. step_line (p i) (q i) (f i) (s i) (u i)
+step_read r p q f s u = λ i. step (p i) (q i) (f i) (s i) (u i)
 
 -- the rungs of a buffer, one by one
 steps_text_more : (rs : List Step) (r : Step) → steps_text (rs ++ (r ∷ [])) ≡ steps_text rs ++ step_text r
@@ -58,15 +63,16 @@ steps_in_more : (b : List ℕ) (i : ℕ) → steps_in b (i + 1) ≡ steps_in b i
 unfolding steps_in
 steps_in_more b i = ap (steps_in b) (add-one i)
 
-pub steps_none : (b d : List ℕ) (at : ℕ) → at ≤ length d → Appended d at (steps_text (steps_in b 0)) d at
+pub steps_none : (b : List ℕ) (t : Text) (n : ℕ) → HasRoom t n → Adds t (steps_text (steps_in b 0)) t
 unfolding steps_in steps_text
-steps_none b d at h = append_none d at h
+steps_none b t n h = record { text = append_none t.out.now t.len (omega arith); same_reference = refl }
 
-pub steps_more : (b : List ℕ) (i : ℕ) {d d₁ d₂ : List ℕ} {at r₁ r₂ : ℕ} → Appended d at (steps_text (steps_in b i)) d₁ r₁
-    → Appended d₁ r₁ (step_text (read_step (take (length b - (front + 40 * i)) (drop (front + 40 * i) b)))) d₂ r₂ → Appended d at (steps_text (steps_in b (i + 1))) d₂ r₂
-steps_more b i h k =
-    append_as (sym (steps_text_more (steps_in b i) (read_step (drop (front + 40 * i) b))) ∙ ap steps_text (sym (steps_in_more b i)))
-    (append_next h (append_as (ap (λ (l : List ℕ). step_text (read_step l)) (part_whole b (front + 40 * i))) k))
+-- the rung that is read from the bytes at the place of the i-th is printed after those before it
+pub steps_more : (b : List ℕ) (i : ℕ) (r : Rung) {t u v : Text} → Adds t (steps_text (steps_in b i)) u
+    → step_of r ≡ read_step (take (length b - (front + 40 * i)) (drop (front + 40 * i) b)) → Adds u (step_text (step_of r)) v → Adds t (steps_text (steps_in b (i + 1))) v
+steps_more b i r h is k =
+    adds_as (sym (steps_text_more (steps_in b i) (read_step (drop (front + 40 * i) b))) ∙ ap steps_text (sym (steps_in_more b i)))
+    (adds_next h (adds_as (ap step_text is ∙ ap (λ (l : List ℕ). step_text (read_step l)) (part_whole b (front + 40 * i))) k))
 
 -- what is printed of a cut
 module _ (s : List ℕ) (cut : ℕ) (old : List ℕ) (good-sheet : refusal s ≡ 0) (within : cut ≤ trace_length s) (size : length old ≡ front + 40 * 256) where
@@ -113,12 +119,12 @@ module _ (s : List ℕ) (cut : ℕ) (old : List ℕ) (good-sheet : refusal s ≡
   pub made_steps : {answer made : ℕ} → answer ≡ answer_of every full_limit s cut 256 (length old) → answer < 2000 → made ≡ answer - 1000 → made ≡ length o.steps
   made_steps p h q = omega (arith, number p derivable (is_derivable p h))
 
-  pub shown_reached : {answer made : ℕ} {d d₁ d₂ new : List ℕ} {at r₁ r₂ : ℕ} → answer ≡ answer_of every full_limit s cut 256 (length old) → answer < 2000 → made ≡ answer - 1000 → new ≡ buffer_of every full_limit s cut 256 old
-      → Appended d at (reached_line cut made) d₁ r₁ → Appended d₁ r₁ (steps_text (steps_in new made)) d₂ r₂ → Appended d at (cut_text s cut) d₂ r₂
+  pub shown_reached : {answer made : ℕ} {new : List ℕ} {t u v : Text} → answer ≡ answer_of every full_limit s cut 256 (length old) → answer < 2000 → made ≡ answer - 1000 → new ≡ buffer_of every full_limit s cut 256 old
+      → Adds t (reached_line cut made) u → Adds u (steps_text (steps_in new made)) v → Adds t (cut_text s cut) v
   unfolding cut_text verdict_text
   shown_reached {answer} {made} {new = new} p h q b line steps =
-      append_as (ap₂ ◌++◌ (ap (reached_line cut) many) (ap steps_text back) ∙ ap (λ (v : Verdict). verdict_text cut v known o.steps) (sym (is_derivable p h)))
-      (append_next line steps)
+      adds_as (ap₂ ◌++◌ (ap (reached_line cut) many) (ap steps_text back) ∙ ap (λ (v : Verdict). verdict_text cut v known o.steps) (sym (is_derivable p h)))
+      (adds_next line steps)
     where
       many : made ≡ length o.steps
       many = made_steps p h q
@@ -130,11 +136,11 @@ module _ (s : List ℕ) (cut : ℕ) (old : List ℕ) (good-sheet : refusal s ≡
   unfolding is_reached
   reached_is p h = ap is_reached (is_derivable p h)
 
-  pub shown_out : {answer count : ℕ} {d d₁ new : List ℕ} {at r₁ : ℕ} → answer ≡ answer_of every full_limit s cut 256 (length old) → 2000 ≤ answer → new ≡ buffer_of every full_limit s cut 256 old
-      → count ≡ ones (cond (leb 32 (length new)) (set_of (take 32 new)) 0) → length new ≡ front + 40 * 256 → Appended d at (out_line cut count) d₁ r₁ → Appended d at (cut_text s cut) d₁ r₁
+  pub shown_out : {answer count : ℕ} {new : List ℕ} {t u : Text} → answer ≡ answer_of every full_limit s cut 256 (length old) → 2000 ≤ answer → new ≡ buffer_of every full_limit s cut 256 old
+      → count ≡ ones (cond (leb 32 (length new)) (set_of (take 32 new)) 0) → length new ≡ front + 40 * 256 → Adds t (out_line cut count) u → Adds t (cut_text s cut) u
   unfolding cut_text verdict_text
   shown_out {count = count} {new = new} p h b q l line =
-      append_as (ap (out_line cut) figure ∙ ap (λ (v : Verdict). verdict_text cut v known o.steps) (sym (is_underivable_lem p h))) line
+      adds_as (ap (out_line cut) figure ∙ ap (λ (v : Verdict). verdict_text cut v known o.steps) (sym (is_underivable_lem p h))) line
     where
       figure : count ≡ known
       figure =
@@ -146,15 +152,21 @@ module _ (s : List ℕ) (cut : ℕ) (old : List ℕ) (good-sheet : refusal s ≡
   out_is p h = ap is_reached (is_underivable_lem p h)
 
 -- the cuts below `cut` are printed, none of them reached, and those from there on are left
-pub record Along (s : List ℕ) (last : ℕ) (d : List ℕ) (at cut : ℕ) (d' : List ℕ) (end : ℕ) : Type 0 where
+pub record Along (s : List ℕ) (last : ℕ) (t : Text) (cut : ℕ) (u : Text) : Type 0 where
   pub done : List ℕ
-  pub written : Appended d at done d' end
+  pub written : Adds t done u
   pub rest : cuts_from s 0 (last + 1) ≡ done ++ cuts_from s cut (last + 1 - cut)
-  pub short : end ≤ at + 64 * cut
+  pub short : u.len ≤ t.len + 64 * cut
 
-module _ (s : List ℕ) (last : ℕ) (d : List ℕ) (at : ℕ) where
-  pub along_start : at ≤ length d → Along s last d at 0 d at
-  along_start h = record { done = []; written = append_none d at h; rest = ap (cuts_from s 0) all; short = omega arith }
+module _ (s : List ℕ) (last : ℕ) (t : Text) where
+  pub along_start : (n : ℕ) → HasRoom t n → Along s last t 0 t
+  along_start n h =
+      record {
+        done = [];
+        written = record { text = append_none t.out.now t.len (omega arith); same_reference = refl };
+        rest = ap (cuts_from s 0) all;
+        short = omega arith;
+      }
     where
       all : last + 1 ≡ last + 1 - 0
       all = omega arith
@@ -172,7 +184,7 @@ module _ (s : List ℕ) (last : ℕ) (d : List ℕ) (at : ℕ) where
       two : last - cut ≡ last + 1 - (cut + 1)
       two = omega arith
 
-  module _ {cut : ℕ} {d₁ d₂ : List ℕ} {r₁ r₂ : ℕ} (a : Along s last d at cut d₁ r₁) (more : cut ≤ last) (new : Appended d₁ r₁ (cut_text s cut) d₂ r₂) where
+  module _ {cut : ℕ} {u v : Text} (a : Along s last t cut u) (more : cut ≤ last) (new : Adds u (cut_text s cut) v) where
     rest_of : List ℕ → List ℕ
     rest_of l = a.done ++ (cut_text s cut ++ l)
 
@@ -183,21 +195,21 @@ module _ (s : List ℕ) (last : ℕ) (d : List ℕ) (at : ℕ) where
         ∙ ap (λ (l : List ℕ). a.done ++ l) (next_cut cut more ∙ ap (λ (t : Bool). cut_text s cut ++ cond t [] (cuts_from s (cut + 1) (last + 1 - (cut + 1)))) p)
         ∙ sym (append_assoc a.done (cut_text s cut) (cond b [] (cuts_from s (cut + 1) (last + 1 - (cut + 1)))))
 
-    pub along_reached : is_reached (outcome_of every s cut 256).verdict ≡ true → Appended d at (cuts_from s 0 (last + 1)) d₂ r₂
-    along_reached p = append_as (sym (whole true p ∙ append-nil (a.done ++ cut_text s cut))) (append_next a.written new)
+    pub along_reached : is_reached (outcome_of every s cut 256).verdict ≡ true → Adds t (cuts_from s 0 (last + 1)) v
+    along_reached p = adds_as (sym (whole true p ∙ append-nil (a.done ++ cut_text s cut))) (adds_next a.written new)
 
-    pub along_more : is_reached (outcome_of every s cut 256).verdict ≡ false → r₂ ≤ r₁ + 64 → Along s last d at (cut + 1) d₂ r₂
+    pub along_more : is_reached (outcome_of every s cut 256).verdict ≡ false → v.len ≤ u.len + 64 → Along s last t (cut + 1) v
     along_more p h =
         record {
           done = a.done ++ cut_text s cut;
-          written = append_next a.written new;
+          written = adds_next a.written new;
           rest = whole false p;
           short = let e = a.short in omega arith;
         }
 
-  pub along_end : {cut : ℕ} {d' : List ℕ} {r : ℕ} → Along s last d at cut d' r → last < cut → Appended d at (cuts_from s 0 (last + 1)) d' r
+  pub along_end : {cut : ℕ} {u : Text} → Along s last t cut u → last < cut → Adds t (cuts_from s 0 (last + 1)) u
   unfolding cuts_from
-  along_end {cut} {d'} {r} a h = append_as (sym (a.rest ∙ ap (λ (k : ℕ). a.done ++ cuts_from s cut k) none ∙ append-nil a.done)) a.written
+  along_end {cut} a h = adds_as (sym (a.rest ∙ ap (λ (k : ℕ). a.done ++ cuts_from s cut k) none ∙ append-nil a.done)) a.written
     where
       none : last + 1 - cut ≡ 0
       none = omega arith

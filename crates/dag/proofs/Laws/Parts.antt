@@ -24,25 +24,9 @@ parts_none zero r h = refl
 parts_none (suc zero) r h = refl
 parts_none (suc (suc k)) r h = absurd (omega arith)
 
-pub parts_half : (k : ℕ) (r : List ℕ) → (k ≡ 5) ⊎ (k ≡ 6) → parts (decode_as k r) ≡ []
-unfolding parts decode_as
-parts_half k r (inl p) = ap (λ (x : ℕ). parts (decode_as x r)) p
-parts_half k r (inr p) = ap (λ (x : ℕ). parts (decode_as x r)) p
-
 -- the kinds with two entry numbers: pair, encryption and lock
 abbrev pub TwoParts : ℕ → Type 0
 TwoParts k = (k ≡ 2) ⊎ ((k ≡ 3) ⊎ (k ≡ 7))
-
-pub two_parts : (k : ℕ) → 2 ≤ k → k ≤ 7 → (k ≡ 4 → ⊥) → (k ≡ 5 → ⊥) → (k ≡ 6 → ⊥) → TwoParts k
-two_parts zero h l a b c = absurd (omega arith)
-two_parts (suc zero) h l a b c = absurd (omega arith)
-two_parts (suc (suc zero)) h l a b c = inl refl
-two_parts (suc (suc (suc zero))) h l a b c = inr (inl refl)
-two_parts (suc (suc (suc (suc zero)))) h l a b c = absurd (a refl)
-two_parts (suc (suc (suc (suc (suc zero))))) h l a b c = absurd (b refl)
-two_parts (suc (suc (suc (suc (suc (suc zero)))))) h l a b c = absurd (c refl)
-two_parts (suc (suc (suc (suc (suc (suc (suc zero))))))) h l a b c = inr (inr refl)
-two_parts (suc (suc (suc (suc (suc (suc (suc (suc k)))))))) h l a b c = absurd (omega arith)
 
 pub parts_two : (k : ℕ) (r : List ℕ) → TwoParts k → parts (decode_as k r) ≡ number_at r 1 ∷ number_at r 3 ∷ []
 unfolding parts decode_as
@@ -71,20 +55,20 @@ module _ (i : ℕ) (r : List ℕ) where
   pub record_items : fits (kind_of r) (length r) ≡ true → kind_of r ≡ 4 → forward_items i r ≡ bad_record i r
   record_items p h = sym (ap (λ (l : List ℕ). when (any_from i l) 6) (parts_items (kind_of r) r h)) ∙ record_fits p
 
-  two : {b : Bool} → TwoParts (kind_of r) → any_from i (number_at r 1 ∷ number_at r 3 ∷ []) ≡ b → any_from i (parts (decode r)) ≡ b
-  two h p = ap (any_from i) (parts_two (kind_of r) r h) ∙ p
+  pub record_two : fits (kind_of r) (length r) ≡ true → TwoParts (kind_of r) → when (any_from i (number_at r 1 ∷ number_at r 3 ∷ [])) 6 ≡ bad_record i r
+  record_two p h = sym (ap (λ (l : List ℕ). when (any_from i l) 6) (parts_two (kind_of r) r h)) ∙ record_fits p
 
   pub record_first : fits (kind_of r) (length r) ≡ true → TwoParts (kind_of r) → i ≤ number_at r 1 → 6 ≡ bad_record i r
   unfolding any_from
-  record_first p h q = when_yes 6 (two h (or_yes _ (le-leb i (number_at r 1) q))) ∙ record_fits p
+  record_first p h q = when_yes 6 (or_yes _ (le-leb i (number_at r 1) q)) ∙ record_two p h
 
   pub record_second : fits (kind_of r) (length r) ≡ true → TwoParts (kind_of r) → number_at r 1 < i → i ≤ number_at r 3 → 6 ≡ bad_record i r
   unfolding any_from
-  record_second p h m q = when_yes 6 (two h (or_no (lt-leb i (number_at r 1) m) (or_yes _ (le-leb i (number_at r 3) q)))) ∙ record_fits p
+  record_second p h m q = when_yes 6 (or_no (lt-leb i (number_at r 1) m) (or_yes _ (le-leb i (number_at r 3) q))) ∙ record_two p h
 
   pub record_good : fits (kind_of r) (length r) ≡ true → TwoParts (kind_of r) → number_at r 1 < i → number_at r 3 < i → 0 ≡ bad_record i r
   unfolding any_from
-  record_good p h m q = when_no 6 (two h (or_no (lt-leb i (number_at r 1) m) (or_no (lt-leb i (number_at r 3) q) refl))) ∙ record_fits p
+  record_good p h m q = when_no 6 (or_no (lt-leb i (number_at r 1) m) (or_no (lt-leb i (number_at r 3) q) refl)) ∙ record_two p h
 
 -- row 12 of a record r of the sheet s
 module _ (s r : List ℕ) where

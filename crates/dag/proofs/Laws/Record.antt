@@ -1,14 +1,13 @@
 -- The lengths that a kind has, the kinds of halves, and an atom's number in each of its lengths. Assumes nothing.
-use mathlib.Core.Path.{◌≡◌, refl, sym, ap, ◌∙◌}
-use mathlib.Core.Bool.{Bool, true, false, true≢false, cond, ◌&&◌, ◌||◌}
+use mathlib.Core.Path.{◌≡◌, refl, sym, ap}
+use mathlib.Core.Bool.{Bool, true, false, cond, ◌||◌}
 use mathlib.Core.List.{List}
-use mathlib.Core.Logic.{◌⊎◌, inl, inr, ⊎_elim, by_cases}
-use Prim.Native.Nat.{ℕ, zero, suc, ◌+◌, ◌*◌, ◌%◌, ◌≤◌, ◌<◌}
-use native.Mathlib.Decide.{dec_lt}
+use mathlib.Core.Logic.{◌⊎◌, inl, inr, ⊎_elim}
+use Prim.Native.Nat.{ℕ, zero, suc, ◌+◌, ◌*◌, ◌≤◌, ◌<◌}
 use native.Mathlib.Numerals.{lt_of_le_of_ne}
 use native.Mathlib.Omega.{arith}
 use borrow.Author.Tests.{eq-eqb, ne_eqb, eqb-true, eqb-false}
-use lib.Dec.{eqb, leb}
+use lib.Dec.{eqb}
 use lib.ListN.{length}
 use Rattle.deduction.specs.Term.{Side, private, public}
 use Rattle.deduction.specs.Entry.{Half, Aenc}
@@ -24,10 +23,6 @@ pub fits_short : (len : ℕ) → len ≡ 3 → true ≡ fits 1 len
 unfolding fits
 fits_short len p = sym (ap (λ (b : Bool). b || eqb len 5) (eq-eqb len 3 p))
 
-pub fits_long : (len : ℕ) → (len ≡ 3 → ⊥) → eqb len 5 ≡ fits 1 len
-unfolding fits
-fits_long len n = sym (ap (λ (b : Bool). b || eqb len 5) (ne_eqb len 3 n))
-
 pub atom_long : (r : List ℕ) → length r ≡ 5 → number_at r 1 * 65536 + number_at r 3 ≡ atom_of r
 unfolding atom_of
 atom_long r p = sym (ap (λ (b : Bool). cond b (number_at r 1 * 65536 + number_at r 3) (number_at r 1)) (eq-eqb (length r) 5 p))
@@ -35,14 +30,6 @@ atom_long r p = sym (ap (λ (b : Bool). cond b (number_at r 1 * 65536 + number_a
 pub atom_short : (r : List ℕ) → (length r ≡ 5 → ⊥) → number_at r 1 ≡ atom_of r
 unfolding atom_of
 atom_short r n = sym (ap (λ (b : Bool). cond b (number_at r 1 * 65536 + number_at r 3) (number_at r 1)) (ne_eqb (length r) 5 n))
-
-pub fits_even : (len : ℕ) → len % 2 ≡ 0 → false ≡ fits 4 len
-unfolding fits
-fits_even len p = sym (ap (λ (b : Bool). b && leb len 129) (ne_eqb (len % 2) 1 (λ q. absurd (omega arith))))
-
-pub fits_odd : (len : ℕ) → (len % 2 ≡ 0 → ⊥) → leb len 129 ≡ fits 4 len
-unfolding fits
-fits_odd len n = sym (ap (λ (b : Bool). b && leb len 129) (eq-eqb (len % 2) 1 (omega arith)))
 
 -- the test for the kind of a half
 pub half_kind_lem : (k : ℕ) → (eqb k 5 || eqb k 6) ≡ true → (k ≡ 5) ⊎ (k ≡ 6)
@@ -54,15 +41,6 @@ half_test k (inr p) = ap (λ (x : ℕ). eqb x 5 || eqb x 6) p
 
 pub no_half : (k : ℕ) → (eqb k 5 || eqb k 6) ≡ false → (k ≡ 5 → ⊥) × (k ≡ 6 → ⊥)
 no_half k p = (eqb-false k 5 (or_false_left (eqb k 5) (eqb k 6) p), eqb-false k 6 (or_false_right (eqb k 5) (eqb k 6) p))
-
-pub fits_half : (kind len : ℕ) → (kind ≡ 5) ⊎ (kind ≡ 6) → eqb len 3 ≡ fits kind len
-unfolding fits
-fits_half kind len (inl p) = sym (ap (λ (k : ℕ). fits k len) p)
-fits_half kind len (inr p) = sym (ap (λ (k : ℕ). fits k len) p)
-
-pub fits_lock : (kind len : ℕ) → kind ≡ 7 → eqb len 5 ≡ fits kind len
-unfolding fits
-fits_lock kind len p = sym (ap (λ (k : ℕ). fits k len) p)
 
 -- a kind over 7 has no length
 pub fits_none : (kind len : ℕ) → 7 < kind → false ≡ fits kind len
@@ -76,9 +54,6 @@ fits_none (suc (suc (suc (suc (suc zero))))) len h = absurd (omega arith)
 fits_none (suc (suc (suc (suc (suc (suc zero)))))) len h = absurd (omega arith)
 fits_none (suc (suc (suc (suc (suc (suc (suc zero))))))) len h = absurd (omega arith)
 fits_none (suc (suc (suc (suc (suc (suc (suc (suc k)))))))) len h = refl
-
-pub fits_known : (kind len : ℕ) → fits kind len ≡ true → kind ≤ 7
-fits_known kind len p = by_cases (dec_lt 7 kind) (λ h. absurd (true≢false (sym p ∙ sym (fits_none kind len h)))) (λ n. omega arith)
 
 -- a record that reads as a lock, and one of the kind of a half
 pub lock_record_lem : (kind : ℕ) (r : List ℕ) (m k : ℕ) → decode_as kind r ≡ Aenc m k → (kind ≡ 7) × (number_at r 3 ≡ k)

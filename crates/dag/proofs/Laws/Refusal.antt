@@ -11,6 +11,7 @@ use native.Mathlib.Numerals.{add-one}
 use native.Mathlib.Omega.{arith}
 use borrow.Author.Tests.{le-leb, lt-leb, eq-eqb, ne_eqb, leb-false}
 use lib.Dec.{eqb, leb}
+use lib.Pointwise.{pointwise}
 use Rattle.dag.specs.Refusal.{when, or_else, first, equal, any_from}
 use Rattle.dag.specs.Sheet.{listed}
 
@@ -47,6 +48,10 @@ when_zero false k p = refl
 pub or_else_none : (a b : ℕ) → a ≡ 0 → or_else a b ≡ b
 unfolding or_else
 or_else_none a b p = ap (λ (x : ℕ). or_else x b) p
+
+pub or_else_zero : (b : ℕ) → or_else 0 b ≡ b
+unfolding or_else
+or_else_zero b = refl
 
 pub or_else_some : (a b : ℕ) → (a ≡ 0 → ⊥) → or_else a b ≡ a
 unfolding or_else
@@ -103,12 +108,6 @@ module _ (f : ℕ → ℕ) where
   first_found i n h p some =
       let e : first f (suc i) ≡ f i = or_else_none (first f i) (f i) p in
       sym (first_stays (suc i) n h (λ z. some (sym e ∙ z)) ∙ e)
-
-  pub first_fault : (i n k : ℕ) → i < n → first f i ≡ 0 → suc k ≡ f i → suc k ≡ first f n
-  first_fault i n k h p q = q ∙ first_found i n h p (λ z. suc_not_zero (q ∙ z))
-    where
-      suc_not_zero : suc k ≡ 0 → ⊥
-      suc_not_zero r = omega arith
 
   -- none of each is none of all, and the converse
   pub all_none : (n : ℕ) → ((i : ℕ) → i < n → f i ≡ 0) → first f n ≡ 0
@@ -174,3 +173,11 @@ equal_differs (x ∷ xs) (y ∷ ys) n =
 
 pub equal_true : (xs ys : List ℕ) → equal xs ys ≡ true → xs ≡ ys
 equal_true xs ys p = by_cases (List-discrete ℕ_discrete xs ys) (λ q. q) (λ n. absurd (true≢false (sym p ∙ equal_differs xs ys n)))
+
+-- equality as the language says it
+pub equal_pointwise : (xs ys : List ℕ) → pointwise eqb xs ys ≡ equal xs ys
+unfolding equal
+equal_pointwise [] [] = refl
+equal_pointwise [] (y ∷ ys) = refl
+equal_pointwise (x ∷ xs) [] = refl
+equal_pointwise (x ∷ xs) (y ∷ ys) = ap (λ (b : Bool). eqb x y && b) (equal_pointwise xs ys)

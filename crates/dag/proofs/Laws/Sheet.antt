@@ -2,22 +2,18 @@
 use mathlib.Core.Path.{◌≡◌, refl, sym, ap, ap₂, ◌∙◌}
 use mathlib.Core.List.{List, [], ◌∷◌, ◌++◌}
 use mathlib.Core.Logic.{by_cases}
-use Prim.Native.Nat.{ℕ, zero, suc, ◌+◌, ◌-◌, ◌*◌, ◌/◌, ◌%◌, ◌^◌, ◌≤◌, ◌<◌}
-use native.Mathlib.Nat.{le_of_eq, le_of_lt, le_trans, add-zero}
+use Prim.Native.Nat.{ℕ, zero, suc, ◌+◌, ◌*◌, ◌/◌, ◌%◌, ◌^◌, ◌≤◌, ◌<◌}
+use native.Mathlib.Nat.{le_trans}
 use native.Mathlib.Decide.{dec_lt}
 use native.Mathlib.Numerals.{add-one}
 use native.Mathlib.Omega.{arith}
-use lib.ListN.{length, get_or, take, drop, length-append, length-drop, drop_of_length-le, get_or-eq_default, get_or-append}
-use lib.Seq.{take_all, take-nil, get_or-append_seam}
+use lib.ListN.{length, get_or, length-append, get_or-eq_default, get_or-append}
+use lib.Seq.{get_or-append_seam}
 use Rattle.dag.specs.Sheet.{number_at, listed}
 
 pub number_past : (s : List ℕ) (i : ℕ) → length s ≤ i → 0 ≡ number_at s i
 unfolding number_at
 number_past s i h = sym (ap₂ (λ (x y : ℕ). x * 256 + y) (get_or-eq_default s 0 h) (get_or-eq_default s 0 (le_trans h (omega arith))))
-
-pub number_last : (s : List ℕ) (i : ℕ) → length s ≤ i + 1 → get_or s i 0 * 256 ≡ number_at s i
-unfolding number_at
-number_last s i h = sym (ap (λ (y : ℕ). get_or s i 0 * 256 + y) (get_or-eq_default s 0 h) ∙ add-zero (get_or s i 0 * 256))
 
 -- a number is what its high byte and its low byte say
 pub two_bytes : (x : ℕ) → x / 256 * 256 + x % 256 ≡ x
@@ -29,15 +25,6 @@ three_bytes kind x h l zero = h
 three_bytes kind x h l (suc zero) = omega arith
 three_bytes kind x h l (suc (suc zero)) = omega arith
 three_bytes kind x h l (suc (suc (suc k))) = omega arith
-
--- a part that begins past the end is empty
-pub part_past : (s : List ℕ) (off len : ℕ) → length s < off → [] ≡ take len (drop off s)
-part_past s off len h = sym (ap (take len) (drop_of_length-le s (le_of_lt h)) ∙ take-nil len)
-
--- a part that would run past the end goes to the end
-pub part_cut : (s : List ℕ) (off len : ℕ) → length s - off ≤ len → take (length s - off) (drop off s) ≡ take len (drop off s)
-part_cut s off len h =
-    take_all (length s - off) (drop off s) (le_of_eq (length-drop off s)) ∙ sym (take_all len (drop off s) (le_trans (le_of_eq (length-drop off s)) h))
 
 -- f 0 .. f (n - 1), place by place
 pub length_listed : (f : ℕ → ℕ) (n : ℕ) → length (listed f n) ≡ n

@@ -9,7 +9,7 @@ use mathlib.Core.List.{List, [], ◌++◌, Memᴰ}
 use Prim.Native.Nat.{ℕ, zero, suc, ◌+◌, ◌*◌, ◌/◌, ◌%◌, ◌≤◌, ◌<◌}
 use native.Mathlib.Omega.{arith}
 use lib.Dec.{eqb}
-use borrow.Author.Tests.{eqb-true, eq-eqb, ne_eqb, lt-ltb, le-ltb}
+use borrow.Author.Tests.{eqb-true}
 use lib.ListN.{get_or}
 use Rattle.bitset.specs.Set.{member}
 use Rattle.deduction.specs.Setting.{Setting}
@@ -34,34 +34,6 @@ use Rattle.knowledge.specs.Inner.Lines.{set_in}
 use Rattle.offers.specs.Inner.Right.{Right}
 use Rattle.derive.specs.Inner.Step.{second_in, line_step, step_in}
 use Rattle.offers.proofs.Laws.Keys.{open_opener}
-
--- the second source of a step, by its rule
-module _ (keys : List ℕ) (h r i : ℕ) where
-  pub second_none : r < 3 → unused ≡ second_in keys h r i
-  unfolding second_in
-  second_none l = rw (lt-ltb r 3 l)
-
-  pub second_key : {j : ℕ} → 3 ≤ r → r ≡ 3 → j ≡ key_right (get_or keys i 0) → j ≡ second_in keys h r i
-  unfolding second_in
-  second_key l p q = rw (le-ltb r 3 l, eq-eqb r 3 p) q
-
-  pub second_opener : {j : ℕ} → 3 ≤ r → ¬ (r ≡ 3) → r ≡ 7 → j ≡ key_opener (get_or keys i 0) → j ≡ second_in keys h r i
-  unfolding second_in
-  second_opener l f p q = rw (le-ltb r 3 l, ne_eqb r 3 f, eq-eqb r 7 p) q
-
-  pub second_built : {j : ℕ} → 3 ≤ r → ¬ (r ≡ 3) → ¬ (r ≡ 7) → j ≡ key_right (get_or keys h 0) → j ≡ second_in keys h r i
-  unfolding second_in
-  second_built l f f' q = rw (le-ltb r 3 l, ne_eqb r 3 f, ne_eqb r 7 f') q
-
--- the step of a number, by its rule
-module _ (keys : List ℕ) (used : List (List ℕ)) (h r i : ℕ) where
-  pub step_other : {j : ℕ} → ¬ (r ≡ 6) → j ≡ second_in keys h r i → step h r i j 0 ≡ line_step keys used h r i
-  unfolding line_step
-  step_other f q = rw (ne_eqb r 6 f) (ap (λ (j : ℕ). step h r i j 0) q)
-
-  pub step_sum : r ≡ 6 → step h 6 unused unused (set_in used h) ≡ line_step keys used h r i
-  unfolding line_step
-  step_sum p = rw (eq-eqb r 6 p)
 
 -- a step's head is the head of its number
 pub step_at_head : (e : ℕ → Entry) (n : ℕ) (k : Knowledge) (x : ℕ) → (step_at e n k x).head ≡ x / 65536

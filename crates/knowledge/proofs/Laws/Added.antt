@@ -1,5 +1,5 @@
 -- A row added to the lines of a set, and lines added to the columns of a set: for no member, and for two sets one after the other.
--- These are what the loops over bits need (`bitset`, proofs/Laws/Bits.antt). Also for one line and one column. Assumes nothing.
+-- These, `adds` and `flips`, are what the loops over members need (`bitset`, proofs/Laws/Members.antt). Also for one line and one column. Assumes nothing.
 use mathlib.Core.Path.{◌≡◌, refl, sym, ap, ap₂, ◌∙◌}
 use mathlib.Core.Bool.{Bool, true, false, true≢false, xor, cond, ◌&&◌, ◌||◌, or-false}
 use mathlib.Core.Logic.{by_cases}
@@ -14,21 +14,9 @@ use borrow.Author.Tests.{eq-eqb, ne_eqb}
 use Rattle.bitset.specs.Set.{member, insert}
 use Rattle.bitset.specs.Words.{value}
 use Rattle.bitset.proofs.Laws.Member.{member_empty, member_sum, member_single, member_insert}
+use Rattle.bitset.proofs.Laws.Members.{Additive}
 use Rattle.deduction.specs.Elimination.{Reduced}
-use Rattle.knowledge.specs.Inner.Lines.{set_in, line_at, plus, Sizes, Swept, Flipped}
-
--- the tables that a sweep changes
-pub record Tables : Type 0 where
-  pub rs : List (List ℕ)
-  pub us : List (List ℕ)
-  pub es : List ℕ
-
-abbrev pub Sized : Tables → Type 0
-Sized t = Sizes t.rs t.us t.es
-
--- a row is added to each line in a set, where the tables have their sizes
-abbrev pub Adds : ℕ → ℕ → ℕ → Tables → Tables → Type 0
-Adds v u S a b = Sized a → Swept v u S a.rs a.us a.es b.rs b.us b.es
+use Rattle.knowledge.specs.Inner.Lines.{set_in, line_at, plus, Sizes, Swept, SweptIn, Flipped}
 
 -- done for one set and then for another that has no member in common with it
 twice : {A : Type 0} (f : A → A) (s t : Bool) → (s ≡ true → t ≡ false) → (x y z : A) → y ≡ cond s (f x) x → z ≡ cond t (f y) y → z ≡ cond (xor s t) (f x) x
@@ -39,26 +27,26 @@ twice f false true h x y z p q = q ∙ ap f p
 twice f false false h x y z p q = q ∙ p
 
 module _ (v u : ℕ) where
-  pub adds_none : (a : Tables) → Adds v u 0 a a
-  adds_none a h = record {
+  swept_none : {rs us : List (List ℕ)} {es : List ℕ} → Sizes rs us es → Swept v u 0 rs us es rs us es
+  swept_none {rs} {us} {es} h = record {
     sizes = h;
-    line = λ k. sym (ap (λ (b : Bool). cond b (plus (line_at a.rs a.us k) v u) (line_at a.rs a.us k)) (member_empty k));
-    empty = λ k. sym (ap (λ (b : Bool). member (value a.es) k || (b && eqb (set_in a.rs k) 0)) (member_empty k) ∙ or-false (member (value a.es) k));
+    line = λ k. sym (ap (λ (b : Bool). cond b (plus (line_at rs us k) v u) (line_at rs us k)) (member_empty k));
+    empty = λ k. sym (ap (λ (b : Bool). member (value es) k || (b && eqb (set_in rs k) 0)) (member_empty k) ∙ or-false (member (value es) k));
   }
 
-  pub adds_both : (S T : ℕ) (a b c : Tables) → ((k : ℕ) → member S k ≡ true → member T k ≡ false) → Adds v u S a b → Adds v u T b c → Adds v u (bit_xor S T) a c
+  swept_both : (S T : ℕ) {rs us : List (List ℕ)} {es : List ℕ} {rs' us' : List (List ℕ)} {es' : List ℕ} {rs'' us'' : List (List ℕ)} {es'' : List ℕ} → ((k : ℕ) → member S k ≡ true → member T k ≡ false)
+      → Swept v u S rs us es rs' us' es' → Swept v u T rs' us' es' rs'' us'' es'' → Swept v u (bit_xor S T) rs us es rs'' us'' es''
   unfolding xor
-  adds_both S T a b c apart f g h =
-      let x = f h in let y = g x.sizes in record {
-        sizes = y.sizes;
-        line = λ k. twice (λ (l : Reduced). plus l v u) (member S k) (member T k) (apart k) (line_at a.rs a.us k) (line_at b.rs b.us k) (line_at c.rs c.us k) (x.line k) (y.line k) ∙ sym (ap (λ (s : Bool). cond s (plus (line_at a.rs a.us k) v u) (line_at a.rs a.us k)) (member_sum S T k));
-        empty = λ k. emptied (member S k) (member T k) (apart k) (member (value a.es) k) (member (value b.es) k) (member (value c.es) k) (eqb (set_in b.rs k) 0) (eqb (set_in c.rs k) 0) (x.empty k) (y.empty k) (kept k (y.line k)) ∙ sym (ap (λ (s : Bool). member (value a.es) k || (s && eqb (set_in c.rs k) 0)) (member_sum S T k));
-      }
+  swept_both S T {rs} {us} {es} {rs'} {us'} {es'} {rs''} {us''} {es''} apart x y = record {
+    sizes = y.sizes;
+    line = λ k. twice (λ (l : Reduced). plus l v u) (member S k) (member T k) (apart k) (line_at rs us k) (line_at rs' us' k) (line_at rs'' us'' k) (x.line k) (y.line k) ∙ sym (ap (λ (s : Bool). cond s (plus (line_at rs us k) v u) (line_at rs us k)) (member_sum S T k));
+    empty = λ k. emptied (member S k) (member T k) (apart k) (member (value es) k) (member (value es') k) (member (value es'') k) (eqb (set_in rs' k) 0) (eqb (set_in rs'' k) 0) (x.empty k) (y.empty k) (kept k (y.line k)) ∙ sym (ap (λ (s : Bool). member (value es) k || (s && eqb (set_in rs'' k) 0)) (member_sum S T k));
+  }
     where
       -- a line that isn't in the second set is as it was
-      kept : (k : ℕ) → line_at c.rs c.us k ≡ cond (member T k) (plus (line_at b.rs b.us k) v u) (line_at b.rs b.us k)
-          → member T k ≡ false → eqb (set_in c.rs k) 0 ≡ eqb (set_in b.rs k) 0
-      kept k p t = ap (λ (l : Reduced). eqb l.remainder 0) (p ∙ ap (λ (s : Bool). cond s (plus (line_at b.rs b.us k) v u) (line_at b.rs b.us k)) t)
+      kept : (k : ℕ) → line_at rs'' us'' k ≡ cond (member T k) (plus (line_at rs' us' k) v u) (line_at rs' us' k)
+          → member T k ≡ false → eqb (set_in rs'' k) 0 ≡ eqb (set_in rs' k) 0
+      kept k p t = ap (λ (l : Reduced). eqb l.remainder 0) (p ∙ ap (λ (s : Bool). cond s (plus (line_at rs' us' k) v u) (line_at rs' us' k)) t)
 
       emptied : (s t : Bool) → (s ≡ true → t ≡ false) → (x y z l m : Bool) → y ≡ (x || (s && l)) → z ≡ (y || (t && m)) → (t ≡ false → m ≡ l) → z ≡ (x || (xor s t && m))
       emptied true true h x y z l m p q e = absurd (true≢false (h refl))
@@ -66,20 +54,29 @@ module _ (v u : ℕ) where
       emptied false true h x y z l m p q e = q ∙ ap (λ (n : Bool). n || m) (p ∙ or-false x)
       emptied false false h x y z l m p q e = q ∙ or-false y ∙ p
 
+  pub adds : Additive (SweptIn v u)
+  adds = record {
+    none = λ a. record { swept = swept_none; columns = refl };
+    both = λ S T a b c apart f g. record { swept = λ h. let x = f.swept h in swept_both S T apart x (g.swept x.sizes); columns = g.columns ∙ f.columns };
+  }
+
 -- lines are added to each column in a set, where the table has its size
 abbrev pub Flips : ℕ → ℕ → List (List ℕ) → List (List ℕ) → Type 0
 Flips c S a b = length a ≡ 256 → Flipped c S a b
 
 module _ (c : ℕ) where
-  pub flips_none : (a : List (List ℕ)) → Flips c 0 a a
+  flips_none : (a : List (List ℕ)) → Flips c 0 a a
   flips_none a h = record { size = h; column = λ q. sym (ap (λ (b : Bool). cond b (bit_xor (set_in a q) c) (set_in a q)) (member_empty q)) }
 
-  pub flips_both : (S T : ℕ) (a b d : List (List ℕ)) → ((k : ℕ) → member S k ≡ true → member T k ≡ false) → Flips c S a b → Flips c T b d → Flips c (bit_xor S T) a d
+  flips_both : (S T : ℕ) (a b d : List (List ℕ)) → ((k : ℕ) → member S k ≡ true → member T k ≡ false) → Flips c S a b → Flips c T b d → Flips c (bit_xor S T) a d
   flips_both S T a b d apart f g h =
       let x = f h in let y = g x.size in record {
         size = y.size;
         column = λ q. twice (λ (n : ℕ). bit_xor n c) (member S q) (member T q) (apart q) (set_in a q) (set_in b q) (set_in d q) (x.column q) (y.column q) ∙ sym (ap (λ (s : Bool). cond s (bit_xor (set_in a q) c) (set_in a q)) (member_sum S T q));
       }
+
+  pub flips : Additive (Flips c)
+  flips = record { none = flips_none; both = flips_both }
 
 -- one line, and one column
 module _ (k : ℕ) where

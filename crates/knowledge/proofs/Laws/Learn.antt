@@ -7,7 +7,8 @@ use native.Mathlib.Omega.{arith}
 use lib.Bits.{bit_xor}
 use lib.Count.{ones, ones-le}
 use lib.Dec.{eqb}
-use lib.ListN.{length}
+use lib.ListN.{length, get_or, set}
+use lib.Seq.{get_or-set_same}
 use borrow.Author.Tests.{eqb-true, eq-eqb}
 use Rattle.bitset.specs.Set.{member, insert, single}
 use Rattle.bitset.specs.Words.{value}
@@ -15,13 +16,13 @@ use Rattle.bitset.proofs.Laws.Words.{Below}
 use Rattle.bitset.proofs.Laws.Bytes.{packed_lt}
 use Rattle.bitset.proofs.Laws.Sums.{ones_insert}
 use Rattle.deduction.specs.Elimination.{Row, Knowledge, reduce, add_row, nothing, learn_as}
-use Rattle.knowledge.specs.Inner.Words.{words_at, vectors_of, SameOutside}
+use Rattle.knowledge.specs.Inner.Rows.{vectors_of, SameOutside}
 use Rattle.knowledge.specs.Inner.State.{Room, Holds, Stored}
-use Rattle.knowledge.proofs.Laws.Store.{same_refl}
+use Rattle.knowledge.proofs.Laws.Store.{same_refl, same_set}
 use Rattle.knowledge.proofs.Laws.Vectors.{vectors_more, vectors_kept}
 
 -- an empty set and no row are the state in which nothing is known
-pub holds_nothing : (known ws : List ℕ) → value known ≡ 0 → Holds nothing known ws 0
+pub holds_nothing : (known : List ℕ) (ws : List (List ℕ)) → value known ≡ 0 → Holds nothing known ws 0
 unfolding nothing vectors_of
 holds_nothing known ws p = record { known = p; rows = refl }
 
@@ -63,25 +64,30 @@ vectors_append [] r = refl
 vectors_append (x ∷ rows) r = ap (λ (l : List ℕ). x.vector ∷ l) (vectors_append rows r)
 
 -- what is stored where nothing is left of an entry, and where something is
-module _ (e remainder : ℕ) (known ws : List ℕ) (len : ℕ) (more : List ℕ) (q : value more ≡ insert (value known) e) where
+module _ (e remainder : ℕ) (known : List ℕ) (ws : List (List ℕ)) (len : ℕ) (more : List ℕ) (q : value more ≡ insert (value known) e) where
   pub stored_none : eqb remainder 0 ≡ true → Stored e remainder known ws len more ws len
   stored_none z = record {
     known = q;
     count = rw z;
     rows = rw z (sym (append-nil (vectors_of ws len)));
-    others = same_refl (4 * len) (4 * len) ws;
+    others = same_refl len len ws;
   }
 
-  pub stored_row : (vs : List ℕ) → eqb remainder 0 ≡ false → SameOutside (4 * len) (4 * len + 4) ws vs → value (words_at vs (4 * len)) ≡ remainder → Stored e remainder known ws len more vs (len + 1)
-  stored_row vs z kept own = record {
+  pub stored_row : (row : List ℕ) (at n : ℕ) → eqb remainder 0 ≡ false → at ≡ len → n ≡ len + 1 → len < length ws → value row ≡ remainder → Stored e remainder known ws len more (set ws at row) n
+  stored_row row at n z here next place own = record {
     known = q;
-    count = rw z;
-    rows = rw z (vectors_more vs len ∙ ap₂ (λ (l : List ℕ) (x : ℕ). l ++ (x ∷ [])) (vectors_kept len (omega arith) kept) own);
-    others = subst (λ (n : ℕ). SameOutside (4 * len) n ws vs) (omega arith) kept;
+    count = rw z next;
+    rows = ap (vectors_of (set ws at row)) next ∙ vectors_more (set ws at row) len
+        ∙ ap₂ (λ (l : List ℕ) (x : ℕ). l ++ (x ∷ [])) (vectors_kept len (omega arith) kept) (ap (λ (i : ℕ). value (get_or (set ws i row) len [])) here ∙ ap value (get_or-set_same ws len row [] place) ∙ own)
+        ∙ sym (ap (λ (b : Bool). vectors_of ws len ++ cond b [] (remainder ∷ [])) z);
+    others = subst (λ (m : ℕ). SameOutside len m ws (set ws at row)) (sym next) kept;
   }
+    where
+      kept : SameOutside len (len + 1) ws (set ws at row)
+      kept = same_set at row (omega arith) (omega arith) (same_refl len (len + 1) ws)
 
 -- with the remainder that the rows leave of e's set v, the words hold the state with e learnt
-pub stored_holds : (k : Knowledge) (v : ℕ) {e remainder : ℕ} {g ws : List ℕ} {len : ℕ} {g' ws' : List ℕ} {len' : ℕ} → Stored e remainder g ws len g' ws' len' → Holds k g ws len
+pub stored_holds : (k : Knowledge) (v : ℕ) {e remainder : ℕ} {g : List ℕ} {ws : List (List ℕ)} {len : ℕ} {g' : List ℕ} {ws' : List (List ℕ)} {len' : ℕ} → Stored e remainder g ws len g' ws' len' → Holds k g ws len
     → remainder ≡ (reduce k.rows v).remainder → (member (value g) e ≡ true → remainder ≡ 0) → Holds (learn_as k e v) g' ws' len'
 stored_holds k v {e} {remainder} {g} {ws} {len} {g'} {ws'} {len'} h holds p old = record {
   known = h.known ∙ ap (λ (x : ℕ). insert x e) holds.known ∙ sym (learn_known k e v);
@@ -96,7 +102,7 @@ stored_holds k v {e} {remainder} {g} {ws} {len} {g'} {ws'} {len'} h holds p old 
         ∙ ap (map (λ (x : Row). x.vector)) (sym (add_one_row k.rows e v (ap (λ (x : ℕ). eqb x 0) (sym p) ∙ z)))
 
 -- a set of four words has at most 256 members
-ones_words : (ws : List ℕ) → length ws ≡ 4 → Below 64 ws → ones (value ws) ≤ 256
+pub ones_words : (ws : List ℕ) → length ws ≡ 4 → Below 64 ws → ones (value ws) ≤ 256
 ones_words ws four small = few (length ws) four (ones-le (length ws * 64) (value ws) (packed_lt 64 ws small))
   where
     few : (m : ℕ) → m ≡ 4 → {n : ℕ} → n ≤ m * 64 → n ≤ 256

@@ -5,7 +5,7 @@ use mathlib.Core.Path.{◌≡◌, refl, sym, ap, ap₂, ◌∙◌, subst}
 use mathlib.Core.Bool.{Bool, true, false, true≢false, xor, cond, ◌&&◌, ◌||◌, or-false, and-true, and-false}
 use mathlib.Core.Logic.{by_cases}
 use mathlib.Core.List.{List, [], ◌∷◌, ◌++◌}
-use Prim.Native.Nat.{ℕ, ◌+◌, ◌<◌}
+use Prim.Native.Nat.{ℕ, zero, suc, ◌+◌, ◌<◌}
 use native.Mathlib.Decide.{ℕ_discrete, dec_lt}
 use native.Mathlib.Omega.{arith}
 use lib.Bits.{bit_xor}
@@ -13,13 +13,13 @@ use lib.Dec.{eqb, ltb}
 use lib.ListN.{length, get_or}
 use borrow.Author.Tests.{eqb-true, eq-eqb, ne_eqb, ltb-true, lt-ltb, le-ltb}
 use Rattle.bitset.specs.Set.{member, insert, single, leading}
-use Rattle.bitset.specs.Words.{value}
+use Rattle.bitset.specs.Words.{packed, value}
 use Rattle.bitset.specs.Inner.{FourWords}
 use Rattle.bitset.proofs.Laws.Member.{member_empty, member_sum, member_single, member_insert, xor_false}
 use Rattle.deduction.specs.Elimination.{Row, Reduced, reduce, reduce_from, take_off, add_row}
 use Rattle.deduction.proofs.Elimination.Reduce.{reduce_more}
 use Rattle.knowledge.proofs.Laws.Learn.{add_none, add_one_row}
-use Rattle.knowledge.specs.Inner.Lines.{set_in, line_at, plus, Swept, Flipped, Kept, Entered, head_in, Begun}
+use Rattle.knowledge.specs.Inner.Lines.{set_in, line_at, plus, Sizes, Swept, Flipped, Kept, Entered, head_in, Begun}
 
 -- the row and the column by turns: which of them is asked first makes no difference
 crossed : (l a b c : Bool) → cond c (xor (l && a) (l && b)) (l && a) ≡ (l && cond b (xor a c) a)
@@ -120,36 +120,33 @@ module _ (i set : ℕ) where
       go true = member_sum (set_in cs q) (single i) k ∙ ap (xor (member (set_in cs q) k)) (member_single i k ∙ sym (and-true (eqb i k)))
       go false = sym (xor_false (member (set_in cs q) k)) ∙ ap (xor (member (set_in cs q) k)) (sym (and-false (eqb i k)))
 
-  module _ {head : Bool} {cs cs' : List (List ℕ)} (h : head ≡ true) (flipped : Flipped (single i) set cs cs') where
-    entered_column : (q k : ℕ) → member (set_in cs' q) k ≡ xor (member (set_in cs q) k) (head && (eqb i k && member set q))
-    entered_column q k =
-        flipped_member flipped q k ∙ ap (λ (b : Bool). xor (member (set_in cs q) k) (b && (eqb i k && member set q))) (sym h)
-
+  module _ {cs cs' : List (List ℕ)} (flipped : Flipped (single i) set cs cs') where
     -- an empty line joins the others
-    pub entered_empty : {es es' : List ℕ} → eqb set 0 ≡ true → FourWords es' → value es' ≡ insert (value es) i → Entered head i set cs es cs' es'
+    pub entered_empty : {es es' : List ℕ} → eqb set 0 ≡ true → FourWords es' → value es' ≡ insert (value es) i → Entered i set cs es cs' es'
     entered_empty {es} {es'} z w p = record {
       size = flipped.size;
       words = w;
-      column = entered_column;
-      empty = λ k. ap (λ (x : ℕ). member x k) p ∙ member_insert (value es) i k ∙ ap (λ (b : Bool). member (value es) k || b) (sym (ap₂ (λ (a b : Bool). a && (eqb i k && b)) h z ∙ and-true (eqb i k)));
+      column = flipped_member flipped;
+      empty = λ k. ap (λ (x : ℕ). member x k) p ∙ member_insert (value es) i k ∙ ap (λ (b : Bool). member (value es) k || b) (sym (ap (λ (b : Bool). eqb i k && b) z ∙ and-true (eqb i k)));
     }
 
-    pub entered_some : {es : List ℕ} → eqb set 0 ≡ false → FourWords es → Entered head i set cs es cs' es
+    pub entered_some : {es : List ℕ} → eqb set 0 ≡ false → FourWords es → Entered i set cs es cs' es
     entered_some {es} z w = record {
       size = flipped.size;
       words = w;
-      column = entered_column;
-      empty = λ k. sym (or-false (member (value es) k)) ∙ ap (λ (b : Bool). member (value es) k || b) (sym (ap₂ (λ (a b : Bool). a && (eqb i k && b)) h z ∙ and-false (eqb i k)));
+      column = flipped_member flipped;
+      empty = λ k. sym (or-false (member (value es) k)) ∙ ap (λ (b : Bool). member (value es) k || b) (sym (ap (λ (b : Bool). eqb i k && b) z ∙ and-false (eqb i k)));
     }
 
-  -- an entry that is no head leaves all as it was
-  pub entered_none : {head : Bool} (cs : List (List ℕ)) (es : List ℕ) → head ≡ false → length cs ≡ 256 → FourWords es → Entered head i set cs es cs es
-  entered_none {head} cs es h l w = record {
-    size = l;
-    words = w;
-    column = λ q k. sym (xor_false (member (set_in cs q) k)) ∙ ap (λ (b : Bool). xor (member (set_in cs q) k) (b && (eqb i k && member set q))) (sym h);
-    empty = λ k. sym (or-false (member (value es) k)) ∙ ap (λ (b : Bool). member (value es) k || (b && (eqb i k && eqb set 0))) (sym h);
-  }
+-- four words that hold the empty set are all 0
+no_word : (ws : List ℕ) → value ws ≡ 0 → (i : ℕ) → get_or ws i 0 ≡ 0
+unfolding packed
+no_word [] p i = refl
+no_word (w ∷ ws) p zero = omega arith
+no_word (w ∷ ws) p (suc i) = no_word ws (omega arith) i
+
+pub no_words : (ws : List ℕ) → length ws ≡ 4 → value ws ≡ 0 → FourWords ws
+no_words ws l p = record { four = l; below = λ i. omega (arith, no_word ws p i) }
 
 -- The columns at the start: for no entry, and for one more
 pub begun_none : (rs : List (List ℕ)) (reps : List ℕ) (cs : List (List ℕ)) (es : List ℕ) → length cs ≡ 256 → FourWords es → ((q : ℕ) → set_in cs q ≡ 0) → value es ≡ 0 → Begun 0 rs reps cs es
@@ -170,58 +167,71 @@ and_left : (a b : Bool) → (a && b) ≡ true → a ≡ true
 and_left true b h = refl
 and_left false b h = h
 
-pub begun_more : (n : ℕ) (rs : List (List ℕ)) (reps : List ℕ) {cs cs' : List (List ℕ)} {es es' : List ℕ} → Begun n rs reps cs es → Entered (eqb (get_or reps n 0) n) n (set_in rs n) cs es cs' es' → Begun (n + 1) rs reps cs' es'
-begun_more n rs reps {cs} {cs'} {es} {es'} h f = record {
-  size = f.size;
-  words = f.words;
-  column = λ q k. f.column q k ∙ ap (λ (b : Bool). xor b (eqb (get_or reps n 0) n && (eqb n k && member (set_in rs n) q))) (h.column q k) ∙ columns q k;
-  empty = λ k. f.empty k ∙ ap (λ (b : Bool). b || (eqb (get_or reps n 0) n && (eqb n k && eqb (set_in rs n) 0))) (h.empty k) ∙ empties k;
-}
-  where
-    -- entry n itself, and any other
-    own : head_in reps n n ≡ false
-    own = ap (λ (b : Bool). b && eqb (get_or reps n 0) n) (le-ltb n n (omega arith))
+-- entry n is no head of those before, and any other is one where it was one
+module _ (n : ℕ) (reps : List ℕ) where
+  own : head_in reps n n ≡ false
+  own = ap (λ (b : Bool). b && eqb (get_or reps n 0) n) (le-ltb n n (omega arith))
 
-    next : head_in reps (n + 1) n ≡ eqb (get_or reps n 0) n
-    next = ap (λ (b : Bool). b && eqb (get_or reps n 0) n) (lt-ltb n (n + 1) (omega arith))
+  next : {b : Bool} → eqb (get_or reps n 0) n ≡ b → head_in reps (n + 1) n ≡ b
+  next p = ap (λ (b : Bool). b && eqb (get_or reps n 0) n) (lt-ltb n (n + 1) (omega arith)) ∙ p
 
-    before : (k : ℕ) → ¬ (n ≡ k) → head_in reps (n + 1) k ≡ head_in reps n k
-    before k g = ap (λ (b : Bool). b && eqb (get_or reps k 0) k) (by_cases (dec_lt k n) (λ l. lt-ltb k (n + 1) (omega arith) ∙ sym (lt-ltb k n l)) (λ l. le-ltb k (n + 1) (omega arith) ∙ sym (le-ltb k n (omega arith))))
+  before : (k : ℕ) → ¬ (n ≡ k) → head_in reps (n + 1) k ≡ head_in reps n k
+  before k g = ap (λ (b : Bool). b && eqb (get_or reps k 0) k) (by_cases (dec_lt k n) (λ l. lt-ltb k (n + 1) (omega arith) ∙ sym (lt-ltb k n l)) (λ l. le-ltb k (n + 1) (omega arith) ∙ sym (le-ltb k n (omega arith))))
 
-    columns : (q k : ℕ) → xor (head_in reps n k && member (set_in rs k) q) (eqb (get_or reps n 0) n && (eqb n k && member (set_in rs n) q)) ≡ (head_in reps (n + 1) k && member (set_in rs k) q)
-    columns q k = by_cases (ℕ_discrete n k) same other
+  -- a head
+  module _ (rs : List (List ℕ)) {cs : List (List ℕ)} {es : List ℕ} (h : Begun n rs reps cs es) where
+    pub begun_head : {cs' : List (List ℕ)} {es' : List ℕ} → eqb (get_or reps n 0) n ≡ true → Entered n (set_in rs n) cs es cs' es' → Begun (n + 1) rs reps cs' es'
+    begun_head {cs'} {es'} r f = record {
+      size = f.size;
+      words = f.words;
+      column = λ q k. f.column q k ∙ ap (λ (b : Bool). xor b (eqb n k && member (set_in rs n) q)) (h.column q k) ∙ columns q k;
+      empty = λ k. f.empty k ∙ ap (λ (b : Bool). b || (eqb n k && eqb (set_in rs n) 0)) (h.empty k) ∙ empties k;
+    }
       where
-        same : n ≡ k → xor (head_in reps n k && member (set_in rs k) q) (eqb (get_or reps n 0) n && (eqb n k && member (set_in rs n) q)) ≡ (head_in reps (n + 1) k && member (set_in rs k) q)
-        same p = subst (λ (j : ℕ). xor (head_in reps n j && member (set_in rs j) q) (eqb (get_or reps n 0) n && (eqb n j && member (set_in rs n) q)) ≡ (head_in reps (n + 1) j && member (set_in rs j) q)) p
-            (ap₂ (λ (a b : Bool). xor (a && member (set_in rs n) q) (eqb (get_or reps n 0) n && (b && member (set_in rs n) q))) own (eq-eqb n n refl)
-            ∙ false_xor (eqb (get_or reps n 0) n && member (set_in rs n) q) ∙ sym (ap (λ (b : Bool). b && member (set_in rs n) q) next))
+        columns : (q k : ℕ) → xor (head_in reps n k && member (set_in rs k) q) (eqb n k && member (set_in rs n) q) ≡ (head_in reps (n + 1) k && member (set_in rs k) q)
+        columns q k = by_cases (ℕ_discrete n k) same other
+          where
+            same : n ≡ k → xor (head_in reps n k && member (set_in rs k) q) (eqb n k && member (set_in rs n) q) ≡ (head_in reps (n + 1) k && member (set_in rs k) q)
+            same p = subst (λ (j : ℕ). xor (head_in reps n j && member (set_in rs j) q) (eqb n j && member (set_in rs n) q) ≡ (head_in reps (n + 1) j && member (set_in rs j) q)) p
+                (ap₂ (λ (a b : Bool). xor (a && member (set_in rs n) q) (b && member (set_in rs n) q)) own (eq-eqb n n refl)
+                ∙ false_xor (member (set_in rs n) q) ∙ sym (ap (λ (b : Bool). b && member (set_in rs n) q) (next r)))
 
-        other : ¬ (n ≡ k) → xor (head_in reps n k && member (set_in rs k) q) (eqb (get_or reps n 0) n && (eqb n k && member (set_in rs n) q)) ≡ (head_in reps (n + 1) k && member (set_in rs k) q)
-        other g =
-            ap (λ (b : Bool). xor (head_in reps n k && member (set_in rs k) q) (eqb (get_or reps n 0) n && (b && member (set_in rs n) q))) (ne_eqb n k g)
-            ∙ ap (xor (head_in reps n k && member (set_in rs k) q)) (and-false (eqb (get_or reps n 0) n)) ∙ xor_false (head_in reps n k && member (set_in rs k) q)
-            ∙ sym (ap (λ (b : Bool). b && member (set_in rs k) q) (before k g))
+            other : ¬ (n ≡ k) → xor (head_in reps n k && member (set_in rs k) q) (eqb n k && member (set_in rs n) q) ≡ (head_in reps (n + 1) k && member (set_in rs k) q)
+            other g =
+                ap (λ (b : Bool). xor (head_in reps n k && member (set_in rs k) q) (b && member (set_in rs n) q)) (ne_eqb n k g)
+                ∙ xor_false (head_in reps n k && member (set_in rs k) q) ∙ sym (ap (λ (b : Bool). b && member (set_in rs k) q) (before k g))
 
-    empties : (k : ℕ) → ((head_in reps n k && eqb (set_in rs k) 0) || (eqb (get_or reps n 0) n && (eqb n k && eqb (set_in rs n) 0))) ≡ (head_in reps (n + 1) k && eqb (set_in rs k) 0)
-    empties k = by_cases (ℕ_discrete n k) same other
+        empties : (k : ℕ) → ((head_in reps n k && eqb (set_in rs k) 0) || (eqb n k && eqb (set_in rs n) 0)) ≡ (head_in reps (n + 1) k && eqb (set_in rs k) 0)
+        empties k = by_cases (ℕ_discrete n k) same other
+          where
+            same : n ≡ k → ((head_in reps n k && eqb (set_in rs k) 0) || (eqb n k && eqb (set_in rs n) 0)) ≡ (head_in reps (n + 1) k && eqb (set_in rs k) 0)
+            same p = subst (λ (j : ℕ). ((head_in reps n j && eqb (set_in rs j) 0) || (eqb n j && eqb (set_in rs n) 0)) ≡ (head_in reps (n + 1) j && eqb (set_in rs j) 0)) p
+                (ap₂ (λ (a b : Bool). (a && eqb (set_in rs n) 0) || (b && eqb (set_in rs n) 0)) own (eq-eqb n n refl)
+                ∙ sym (ap (λ (b : Bool). b && eqb (set_in rs n) 0) (next r)))
+
+            other : ¬ (n ≡ k) → ((head_in reps n k && eqb (set_in rs k) 0) || (eqb n k && eqb (set_in rs n) 0)) ≡ (head_in reps (n + 1) k && eqb (set_in rs k) 0)
+            other g =
+                ap (λ (b : Bool). (head_in reps n k && eqb (set_in rs k) 0) || (b && eqb (set_in rs n) 0)) (ne_eqb n k g)
+                ∙ or-false (head_in reps n k && eqb (set_in rs k) 0) ∙ sym (ap (λ (b : Bool). b && eqb (set_in rs k) 0) (before k g))
+
+    -- no head: nothing changes
+    pub begun_other : eqb (get_or reps n 0) n ≡ false → Begun (n + 1) rs reps cs es
+    begun_other r = record {
+      size = h.size;
+      words = h.words;
+      column = λ q k. h.column q k ∙ ap (λ (b : Bool). b && member (set_in rs k) q) (same k);
+      empty = λ k. h.empty k ∙ ap (λ (b : Bool). b && eqb (set_in rs k) 0) (same k);
+    }
       where
-        same : n ≡ k → ((head_in reps n k && eqb (set_in rs k) 0) || (eqb (get_or reps n 0) n && (eqb n k && eqb (set_in rs n) 0))) ≡ (head_in reps (n + 1) k && eqb (set_in rs k) 0)
-        same p = subst (λ (j : ℕ). ((head_in reps n j && eqb (set_in rs j) 0) || (eqb (get_or reps n 0) n && (eqb n j && eqb (set_in rs n) 0))) ≡ (head_in reps (n + 1) j && eqb (set_in rs j) 0)) p
-            (ap₂ (λ (a b : Bool). (a && eqb (set_in rs n) 0) || (eqb (get_or reps n 0) n && (b && eqb (set_in rs n) 0))) own (eq-eqb n n refl)
-            ∙ sym (ap (λ (b : Bool). b && eqb (set_in rs n) 0) next))
-
-        other : ¬ (n ≡ k) → ((head_in reps n k && eqb (set_in rs k) 0) || (eqb (get_or reps n 0) n && (eqb n k && eqb (set_in rs n) 0))) ≡ (head_in reps (n + 1) k && eqb (set_in rs k) 0)
-        other g =
-            ap (λ (b : Bool). (head_in reps n k && eqb (set_in rs k) 0) || (eqb (get_or reps n 0) n && (b && eqb (set_in rs n) 0))) (ne_eqb n k g)
-            ∙ ap (λ (b : Bool). (head_in reps n k && eqb (set_in rs k) 0) || b) (and-false (eqb (get_or reps n 0) n)) ∙ or-false (head_in reps n k && eqb (set_in rs k) 0)
-            ∙ sym (ap (λ (b : Bool). b && eqb (set_in rs k) 0) (before k g))
+        same : (k : ℕ) → head_in reps n k ≡ head_in reps (n + 1) k
+        same k = by_cases (ℕ_discrete n k) (λ p. subst (λ (j : ℕ). head_in reps n j ≡ head_in reps (n + 1) j) p (own ∙ sym (next r))) (λ g. sym (before k g))
 
 -- so where the remainders are the sets and nothing is used, the tables are right by no row
-pub kept_begun : (n : ℕ) (s : ℕ → ℕ) {rs us : List (List ℕ)} {reps : List ℕ} {cs : List (List ℕ)} {es : List ℕ} → Begun n rs reps cs es → length rs ≡ 256 → length us ≡ 256
+pub kept_begun : (n : ℕ) (s : ℕ → ℕ) {rs us : List (List ℕ)} {reps : List ℕ} {cs : List (List ℕ)} {es : List ℕ} → Begun n rs reps cs es → Sizes rs us es
     → ((k : ℕ) → k < n → set_in rs k ≡ s k) → ((k : ℕ) → set_in us k ≡ 0) → Kept (head_in reps n) s [] rs us cs es
 unfolding reduce reduce_from
-kept_begun n s {rs} {us} {reps} {cs} {es} h lr lu sets none = record {
-  sizes = record { remainders = lr; used = lu; empty = h.words };
+kept_begun n s {rs} {us} {reps} {cs} {es} h sizes sets none = record {
+  sizes = sizes;
   size = h.size;
   line = λ k l. λ i. record { remainder = sets k (within k l) i; used = none k i };
   column = λ q k. h.column q k ∙ behind k (λ (x : ℕ). member x q);

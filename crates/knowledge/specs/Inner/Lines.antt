@@ -1,7 +1,8 @@
 -- The tables of lines and columns.
 -- Defined: `set_in`, a set of a table; `line_at`, a line; `plus`, a line with a row added; `Sizes`, the tables' lengths; `Swept`, a row was added to the lines in a set;
 -- `Flipped`, the columns in a set were changed by some lines; `Kept`, what the tables hold while entries are learnt; `Entered`, one line more at the start; `head_in`, is
--- an entry a head by the table of representatives; `Begun`, what columns and empty lines hold at the start.
+-- an entry a head by the table of representatives; `Begun`, what columns and empty lines hold at the start. `SweptIn` and `KeptIn` say `Swept` and `Kept` of the
+-- struct that has the tables.
 use Rattle.std.specs.Prelude.{ℕ, ◌≡◌, Bool, true, cond, ◌&&◌, ◌||◌, List, [], eqb, ltb, length, get_or}
 use Rattle.std.specs.Bool.{xor}
 use Rattle.std.specs.Int.Bits.{bit_xor}
@@ -9,6 +10,7 @@ use Rattle.bitset.specs.Set.{member}
 use Rattle.bitset.specs.Words.{value}
 use Rattle.bitset.specs.Inner.{FourWords}
 use Rattle.deduction.specs.Elimination.{Row, Reduced, reduce}
+use Rattle.knowledge.specs.declared.lines.Lines.{Lines}
 
 -- set k of a table of sets
 abbrev pub set_in : List (List ℕ) → ℕ → ℕ
@@ -34,6 +36,11 @@ pub record Swept (vector uses lines : ℕ) (rs us : List (List ℕ)) (es : List 
   pub line : (k : ℕ) → line_at rs' us' k ≡ cond (member lines k) (plus (line_at rs us k) vector uses) (line_at rs us k)
   pub empty : (k : ℕ) → member (value es') k ≡ (member (value es) k || (member lines k && eqb (set_in rs' k) 0))
 
+-- the same of the struct, where its tables have their sizes; the columns are as they were
+pub record SweptIn (vector uses lines : ℕ) (a b : Lines) : Type 0 where
+  pub swept : Sizes a.remainders a.used a.empty → Swept vector uses lines a.remainders a.used a.empty b.remainders b.used b.empty
+  pub columns : b.columns ≡ a.columns
+
 -- each column in the set `columns` has the lines that it had or that are in `lines`, but not in both; the other columns are as they were
 pub record Flipped (lines columns : ℕ) (cs cs' : List (List ℕ)) : Type 0 where
   pub size : length cs' ≡ 256
@@ -48,12 +55,15 @@ pub record Kept (live : ℕ → Bool) (s : ℕ → ℕ) (rows : List Row) (rs us
   pub column : (q k : ℕ) → member (set_in cs q) k ≡ (live k && member (reduce rows (s k)).remainder q)
   pub empty : (k : ℕ) → member (value es) k ≡ (live k && eqb (reduce rows (s k)).remainder 0)
 
--- line i, whose remainder is `set`, was put into columns and empty lines, where it is a head
-pub record Entered (head : Bool) (i set : ℕ) (cs : List (List ℕ)) (es : List ℕ) (cs' : List (List ℕ)) (es' : List ℕ) : Type 0 where
+abbrev pub KeptIn : (ℕ → Bool) → (ℕ → ℕ) → List Row → Lines → Type 0
+KeptIn live s rows l = Kept live s rows l.remainders l.used l.columns l.empty
+
+-- line i, whose remainder is `set`, was put into columns and empty lines
+pub record Entered (i set : ℕ) (cs : List (List ℕ)) (es : List ℕ) (cs' : List (List ℕ)) (es' : List ℕ) : Type 0 where
   pub size : length cs' ≡ 256
   pub words : FourWords es'
-  pub column : (q k : ℕ) → member (set_in cs' q) k ≡ xor (member (set_in cs q) k) (head && (eqb i k && member set q))
-  pub empty : (k : ℕ) → member (value es') k ≡ (member (value es) k || (head && (eqb i k && eqb set 0)))
+  pub column : (q k : ℕ) → member (set_in cs' q) k ≡ xor (member (set_in cs q) k) (eqb i k && member set q)
+  pub empty : (k : ℕ) → member (value es') k ≡ (member (value es) k || (eqb i k && eqb set 0))
 
 -- is entry k one of the first n and its own representative?
 abbrev pub head_in : List ℕ → ℕ → ℕ → Bool

@@ -1,16 +1,14 @@
--- Text appended to a buffer, piece by piece, and a line from its pieces.
--- Shown: nothing appended; one piece after another; one byte; a whole line.
+-- Text appended to a buffer, piece by piece.
+-- Shown: nothing appended; one piece after another; the buffer keeps its length.
 -- Assumes nothing.
-use mathlib.Core.Path.{◌≡◌, refl, sym, ap, ap₂, ◌∙◌, subst}
-use mathlib.Core.List.{List, [], ◌∷◌, ◌++◌, append_assoc, append-nil}
-use Prim.Native.Nat.{ℕ, suc, ◌+◌, ◌-◌, ◌≤◌, ◌<◌}
+use mathlib.Core.Path.{◌≡◌, sym, ap, ap₂, ◌∙◌, subst}
+use mathlib.Core.List.{List, [], ◌++◌, append_assoc, append-nil}
+use Prim.Native.Nat.{ℕ, ◌+◌, ◌-◌, ◌≤◌}
 use native.Mathlib.Nat.{add-zero, add_assoc, le_trans, le_of_eq}
-use native.Mathlib.Numerals.{add-one}
 use native.Mathlib.Omega.{arith}
-use lib.ListN.{length, take, drop, set, length-append, length-drop, take-append-drop}
-use lib.Seq.{length-take-le, take_at, drop_at, drop-drop, set_split, paste, take-length}
+use lib.ListN.{length, take, drop, length-append, length-drop, take-append-drop}
+use lib.Seq.{length-take-le, take_at, drop_at, drop-drop}
 use Rattle.line.specs.Buffer.{Appended}
-use Rattle.line.specs.Words.{newline}
 
 -- nothing is appended
 pub append_none : (d : List ℕ) (at : ℕ) → at ≤ length d → Appended d at [] d at
@@ -19,15 +17,6 @@ append_none d at h = record { place = sym (add-zero at); within = h; bytes = sym
 -- the text of a piece that was taken for another
 pub append_as : {d w w' d' : List ℕ} {at r : ℕ} → w ≡ w' → Appended d at w d' r → Appended d at w' d' r
 append_as {d} {w} {w'} {d'} {at} {r} e h = subst (λ (x : List ℕ). Appended d at x d' r) e h
-
--- all of a word was copied
-pub append_pasted : (d : List ℕ) (at : ℕ) (w d' : List ℕ) (i : ℕ) → at + length w ≤ length d → i ≡ length w → d' ≡ paste d at w i → Appended d at w d' (at + i)
-append_pasted d at w d' i room e p =
-    record {
-      within = omega arith;
-      place = ap (λ (k : ℕ). at + k) e;
-      bytes = p ∙ ap (λ (k : ℕ). paste d at w k) e ∙ ap (λ (x : List ℕ). take at d ++ x ++ drop (at + length w) d) (take-length w);
-    }
 
 module _ (d : List ℕ) (at : ℕ) (a : List ℕ) (room : at + length a ≤ length d) where
   -- the front of a buffer to which a was appended
@@ -47,10 +36,6 @@ module _ (d : List ℕ) (at : ℕ) (a : List ℕ) (room : at + length a ≤ leng
 module _ (d : List ℕ) (at : ℕ) (a b : List ℕ) (room : at + length (a ++ b) ≤ length d) where
   pub first_room : at + length a ≤ length d
   first_room = let e = length-append a b in omega arith
-
-  module _ {d₁ : List ℕ} {r₁ : ℕ} (h : Appended d at a d₁ r₁) where
-    pub next_room : r₁ + length b ≤ length d₁
-    next_room = let e = length-append a b in let f = h.place in let g = append_length d at a first_room h in omega arith
 
   pub append_more : {d₁ d₂ : List ℕ} {r₁ r₂ : ℕ} → Appended d at a d₁ r₁ → Appended d₁ r₁ b d₂ r₂ → Appended d at (a ++ b) d₂ r₂
   append_more {d₁} {d₂} {r₁} {r₂} h k = record { place = places; bytes = all; within = le_trans (le_of_eq places) room }
@@ -85,30 +70,3 @@ append_next {d} {d₁} {d₂} {a} {b} {at} {r₁} {r₂} h k = append_more d at 
   where
     room : at + length (a ++ b) ≤ length d
     room = omega (arith, h.place, k.place, k.within, append_kept h, length-append a b)
-
--- one byte
-pub append_byte : (d : List ℕ) (at x : ℕ) → at < length d → Appended d at (x ∷ []) (set d at x) (at + 1)
-append_byte d at x h =
-    record {
-      place = refl;
-      within = omega arith;
-      bytes = set_split d at x h ∙ sym (append_assoc (take at d) (x ∷ []) (drop (suc at) d)) ∙ ap (λ (k : ℕ). take at d ++ (x ∷ []) ++ drop k d) (sym (add-one at));
-    }
-
--- a line of two pieces and its newline
-module _ (d : List ℕ) (at : ℕ) (p q : List ℕ) (room : at + length (p ++ q ++ newline) ≤ length d) where
-  pieces_room : at + length (p ++ q) ≤ length d
-  pieces_room = first_room d at (p ++ q) newline room
-
-  pub line_first : at + length p ≤ length d
-  line_first = first_room d at p q pieces_room
-
-  pub line_next : {d₁ : List ℕ} {r₁ : ℕ} → Appended d at p d₁ r₁ → r₁ + length q ≤ length d₁
-  line_next h = next_room d at p q pieces_room h
-
-  pub line_last : {d₁ d₂ : List ℕ} {r₁ r₂ : ℕ} → Appended d at p d₁ r₁ → Appended d₁ r₁ q d₂ r₂ → r₂ + length newline ≤ length d₂
-  line_last h k = next_room d at (p ++ q) newline room (append_more d at p q pieces_room h k)
-
-  pub line_appended : {d₁ d₂ d₃ : List ℕ} {r₁ r₂ r₃ : ℕ} → Appended d at p d₁ r₁ → Appended d₁ r₁ q d₂ r₂ → Appended d₂ r₂ newline d₃ r₃
-      → Appended d at (p ++ q ++ newline) d₃ r₃
-  line_appended h k l = append_more d at (p ++ q) newline room (append_more d at p q pieces_room h k) l

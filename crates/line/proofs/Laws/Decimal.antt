@@ -10,6 +10,8 @@ use native.Mathlib.Decide.{dec_lt}
 use native.Mathlib.Omega.{arith}
 use lib.ListN.{length, get_or, length-append, get_or-append}
 use lib.Seq.{get_or-append_seam}
+use Rattle.std.specs.Fmt.{decimal as std_decimal}
+use Rattle.std.proofs.lemmas.Fmt.{decimal_by_steps}
 use Rattle.bitset.proofs.Laws.Choice.{when_lt, when_not_lt}
 use Rattle.line.specs.Decimal.{digits, decimal}
 
@@ -130,3 +132,9 @@ decimal_length zero n h = le_of_eq (ap length (decimal_small n h))
 decimal_length (suc k) n h =
     by_cases (dec_lt n 10) (λ p. let e = ap length (decimal_small n p) in omega arith)
     (λ p. let e = decimal_longer n (omega arith) in let d = decimal_length k (n / 10) ((div-lt_iff_lt-mul (omega arith)).1 (lt_of_lt_of_le h (le_of_eq (pow-suc 10 (suc k))))) in omega arith)
+
+-- what the library prints of a number is its decimal
+pub decimal_printed : (n : ℕ) → n < 2 ^ 64 → std_decimal n ≡ decimal n
+decimal_printed =
+    decimal_by_steps (λ n ds. ds ≡ decimal n) (λ n h. sym (decimal_small n h))
+    (λ n ds h p. ap (λ (x : List ℕ). x ++ ((48 + n % 10) ∷ [])) p ∙ sym (decimal_more n h))

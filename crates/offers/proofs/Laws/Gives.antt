@@ -1,88 +1,83 @@
 -- What one entry offers, by the tests of its key. Assumes nothing.
-use mathlib.Core.Path.{◌≡◌, sym, ap, ◌∙◌}
-use mathlib.Core.Bool.{Bool, true, false, cond}
-use mathlib.Core.List.{[], ◌∷◌, ◌++◌}
-use Prim.Native.Nat.{ℕ, ◌+◌, ◌*◌, ◌≤◌}
+use mathlib.Core.Path.{◌≡◌, refl, sym, ap, ◌∙◌}
+use mathlib.Core.Bool.{Bool, false, cond}
+use mathlib.Core.List.{[], ◌++◌}
+use Prim.Native.Nat.{ℕ, ◌+◌, ◌*◌, ◌<◌}
 use native.Mathlib.Omega.{arith}
 use lib.Dec.{eqb}
-use borrow.Author.Tests.{eq-eqb, ne_eqb}
+use borrow.Author.Tests.{ne_eqb}
+use denote.Enum.Declared.{tag_of}
 use Rattle.bitset.specs.Set.{member}
 use Rattle.deduction.specs.Setting.{Setting}
 use Rattle.deduction.specs.Run.{number, by_rule}
+use Rattle.dag.specs.Kind.{byte_of}
+use Rattle.dag.specs.declared.kind.Kind.{Kind}
+use Rattle.dag.specs.declared.kind.Kind.TheVariants.{Zero, Atom, Pair, Enc, Sum, PrivateHalf, PublicHalf, Aenc}
 use Rattle.canonical.specs.Inner.Key.{key_kind, key_left, key_right, key_opener}
-use Rattle.offers.specs.Inner.Offers.{both_known, built_by, key_gives, key_built, key_offers}
+use Rattle.offers.specs.contracts.rules.Rule.{the_type}
+use Rattle.offers.specs.declared.rules.Rule.{Rule}
+use Rattle.offers.specs.declared.rules.Rule.TheVariants.{Left, Right, Open, Join, Seal, Sum as SumRule, Unlock, Lock}
+use Rattle.offers.specs.Inner.Offers.{both_known, built_by, key_gives, key_built}
+use Rattle.offers.specs.Inner.Rule.{rule_number}
 
 -- a member test of a part that was read off a key
 pub part_known : {l p : ℕ} {b t : Bool} (g : ℕ) → l ≡ p → b ≡ member g l → b ≡ t → member g p ≡ t
 part_known g q m r = ap (member g) (sym q) ∙ sym m ∙ r
 
--- one rule, by its switch
-module _ (on : Setting) (h r i : ℕ) {t : Bool} (p : t ≡ on r) where
-  pub rule_on : t ≡ true → ((h * 65536 + (r * 256 + i)) ∷ []) ≡ by_rule on h r i
-  unfolding by_rule
-  rule_on q = rw (sym p ∙ q) (ap (λ (x : ℕ). x ∷ []) same)
-    where
-      same : h * 65536 + (r * 256 + i) ≡ number h r i
-      same = omega arith
+-- the number that the program casts a rule to
+pub rule_tag : (r : Rule) → tag_of the_type r + 1 ≡ rule_number r
+rule_tag Left = refl
+rule_tag Right = refl
+rule_tag Open = refl
+rule_tag Join = refl
+rule_tag Seal = refl
+rule_tag SumRule = refl
+rule_tag Unlock = refl
+rule_tag Lock = refl
 
-  pub rule_off : t ≡ false → [] ≡ by_rule on h r i
-  unfolding by_rule
-  rule_off q = rw (sym p ∙ q)
+-- a step's number, by its rule
+pub rule_step : (h i : ℕ) (r : Rule) → h * 65536 + ((tag_of the_type r + 1) * 256 + i) ≡ number h (rule_number r) i
+rule_step h i r = omega (arith, rule_tag r)
 
--- a known entry, by the kind k of its key
+-- a known entry, by the kind of its key
 module _ (on : Setting) (g key i : ℕ) {k : ℕ} (p : k ≡ key_kind key) where
-  is : (n : ℕ) → k ≡ n → eqb (key_kind key) n ≡ true
-  is n q = eq-eqb (key_kind key) n (sym p ∙ q)
-
-  other : (n : ℕ) → ¬ (k ≡ n) → eqb (key_kind key) n ≡ false
-  other n f = ne_eqb (key_kind key) n (λ q. f (p ∙ q))
-
-  pub gives_pair : k ≡ 2 → {l r : ℕ} → l ≡ key_left key → r ≡ key_right key → (by_rule on l 1 i ++ by_rule on r 2 i) ≡ key_gives on g key i
+  pub gives_pair : 2 ≡ k → {l r : ℕ} → l ≡ key_left key → r ≡ key_right key → (by_rule on l 1 i ++ by_rule on r 2 i) ≡ key_gives on g key i
   unfolding key_gives
-  gives_pair q pl pr = rw (is 2 q, pl, pr)
+  gives_pair q pl pr = rw (sym (q ∙ p), pl, pr)
 
-  pub gives_enc : ¬ (k ≡ 2) → k ≡ 3 → {l r : ℕ} {t : Bool} → l ≡ key_left key → r ≡ key_right key → t ≡ member g r → cond t (by_rule on l 3 i) [] ≡ key_gives on g key i
+  pub gives_enc : 3 ≡ k → {l r : ℕ} {t : Bool} → l ≡ key_left key → r ≡ key_right key → t ≡ member g r → cond t (by_rule on l 3 i) [] ≡ key_gives on g key i
   unfolding key_gives
-  gives_enc f q pl pr pt = rw (other 2 f, is 3 q, pt, pl, pr)
+  gives_enc q pl pr pt = rw (sym (q ∙ p), pt, pl, pr)
 
-  pub gives_lock : ¬ (k ≡ 2) → ¬ (k ≡ 3) → k ≡ 7 → {l o : ℕ} {t : Bool} → l ≡ key_left key → o ≡ key_opener key → t ≡ member g o → cond t (by_rule on l 7 i) [] ≡ key_gives on g key i
+  pub gives_lock : 7 ≡ k → {l o : ℕ} {t : Bool} → l ≡ key_left key → o ≡ key_opener key → t ≡ member g o → cond t (by_rule on l 7 i) [] ≡ key_gives on g key i
   unfolding key_gives
-  gives_lock f d q pl po pt = rw (other 2 f, other 3 d, is 7 q, pt, pl, po)
+  gives_lock q pl po pt = rw (sym (q ∙ p), pt, pl, po)
 
-  pub gives_none : ¬ (k ≡ 2) → ¬ (k ≡ 3) → ¬ (k ≡ 7) → [] ≡ key_gives on g key i
+  pub gives_none : (kind : Kind) → byte_of kind ≡ k → ¬ (kind ≡ Pair) → ¬ (kind ≡ Enc) → ¬ (kind ≡ Aenc) → [] ≡ key_gives on g key i
   unfolding key_gives
-  gives_none f d u = rw (other 2 f, other 3 d, other 7 u)
+  gives_none Zero q f d u = rw (sym (q ∙ p))
+  gives_none Atom q f d u = rw (sym (q ∙ p))
+  gives_none Pair q f d u = absurd (f refl)
+  gives_none Enc q f d u = absurd (d refl)
+  gives_none Sum q f d u = rw (sym (q ∙ p))
+  gives_none PrivateHalf q f d u = rw (sym (q ∙ p))
+  gives_none PublicHalf q f d u = rw (sym (q ∙ p))
+  gives_none Aenc q f d u = absurd (u refl)
 
--- the rule by which an entry is built
-pub built_by_le : (k : ℕ) → built_by k ≤ 8
-unfolding built_by
-built_by_le k = go (eqb k 2) (eqb k 3) (eqb k 7)
-  where
-    go : (a b c : Bool) → cond a 4 (cond b 5 (cond c 8 0)) ≤ 8
-    go true b c = omega arith
-    go false true c = omega arith
-    go false false true = omega arith
-    go false false false = omega arith
+  -- past every kind
+  pub gives_past : 7 < k → [] ≡ key_gives on g key i
+  unfolding key_gives
+  gives_past l = rw (other 2 (omega arith), other 3 (omega arith), other 7 (omega arith))
+    where
+      other : (n : ℕ) → n < k → eqb (key_kind key) n ≡ false
+      other n h = ne_eqb (key_kind key) n (λ q. omega (arith, p, q))
 
--- an unknown entry, by the rule r of its kind
-module _ (on : Setting) (g key i : ℕ) {k r : ℕ} (p : k ≡ key_kind key) (q : r ≡ built_by k) where
-  rule : r ≡ built_by (key_kind key)
-  rule = q ∙ ap built_by p
-
-  pub built_rule : ¬ (r ≡ 0) → {l : ℕ} {t : Bool} → l ≡ key_left key → t ≡ both_known g key → cond t (by_rule on i r l) [] ≡ key_built on g key i
+-- an unknown entry, by the kind k of its key
+module _ (on : Setting) (g key i : ℕ) {k : ℕ} (p : k ≡ key_kind key) where
+  pub built_rule : (r : Rule) → built_by k ≡ rule_number r → {l : ℕ} {t : Bool} → l ≡ key_left key → t ≡ both_known g key → cond t (by_rule on i (rule_number r) l) [] ≡ key_built on g key i
   unfolding key_built
-  built_rule f pl pt = rw (sym rule, ne_eqb r 0 f, pt, pl)
+  built_rule r q pl pt = rw (ap built_by (sym p) ∙ q, ne_eqb (rule_number r) 0 (λ z. omega (arith, rule_tag r, z)), pt, pl)
 
-  pub built_none : r ≡ 0 → [] ≡ key_built on g key i
+  pub built_none : built_by k ≡ 0 → [] ≡ key_built on g key i
   unfolding key_built
-  built_none z = rw (sym rule, eq-eqb r 0 z)
-
--- known or not
-module _ (on : Setting) (g key i : ℕ) {t : Bool} (p : t ≡ member g i) where
-  pub offers_known : t ≡ true → key_gives on g key i ≡ key_offers on g key i
-  unfolding key_offers
-  offers_known q = rw (sym p ∙ q)
-
-  pub offers_open : t ≡ false → key_built on g key i ≡ key_offers on g key i
-  unfolding key_offers
-  offers_open q = rw (sym p ∙ q)
+  built_none z = rw (ap built_by (sym p) ∙ z)

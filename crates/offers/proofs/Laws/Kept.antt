@@ -24,8 +24,8 @@ use Rattle.canonical.proofs.Laws.Record.{Bytes, narrow_bytes}
 use Rattle.offers.specs.Inner.Right.{Right}
 use Rattle.offers.specs.Inner.Offers.{line_offers, lists_of, key_offers, table_offers, set_offers, is_head}
 use Rattle.offers.specs.Inner.Users.{uses, UsersOf, Filled}
-use Rattle.offers.specs.Inner.Table.{Adds, Covers, Kept}
-use Rattle.offers.proofs.Laws.Table.{table_empty, adds_as}
+use Rattle.offers.specs.Inner.Table.{Table, Adds, Covers, Kept}
+use Rattle.offers.proofs.Laws.Table.{adds_as}
 use Rattle.offers.proofs.Laws.Keys.{keys_line, keys_all, keys_set, users_of}
 use Rattle.offers.proofs.Laws.Users.{nobody}
 use Rattle.offers.proofs.Laws.Offers.{is_head_lem, covers_start, covers_learn}
@@ -33,10 +33,10 @@ use Rattle.offers.proofs.Laws.Offers.{is_head_lem, covers_start, covers_learn}
 module _ (on : Setting) (e : ℕ → Entry) (n : ℕ) (down : Downward e n) (few : n ≤ 256) (narrow : Narrow e n)
     (halves : Halved e n)
     (keys reps : List ℕ) (right : Right e n keys reps) where
-  pub kept_start : (g : ℕ) {best ready : List ℕ} → Adds (replicate 256 65535) (0 ∷ 0 ∷ 0 ∷ 0 ∷ []) best ready (table_offers on g keys reps n) → Kept on e n g best ready
-  kept_start g a = record {
+  pub kept_start : (g : ℕ) {best ready best' ready' : List ℕ} → Table best ready [] → Adds best ready best' ready' (table_offers on g keys reps n) → Kept on e n g best' ready'
+  kept_start g t a = record {
     made = table_offers on g keys reps n;
-    table = a [] table_empty;
+    table = a [] t;
     covers = subst (Covers g (table_offers on g keys reps n)) (keys_all on e n down few narrow halves keys reps right g) (covers_start g (table_offers on g keys reps n));
   }
 
@@ -58,9 +58,10 @@ module _ (on : Setting) (s : List ℕ) (ok : refusal s ≡ 0) (bytes : Bytes s) 
   narrow = narrow_bytes s (count_of s) bytes
 
   -- the tables of offers and users as the run makes them at its start
-  pub sheet_start : (g : ℕ) {n : ℕ} {best ready : List ℕ} → n ≡ count_of s → Adds (replicate 256 65535) (0 ∷ 0 ∷ 0 ∷ 0 ∷ []) best ready (table_offers on g keys reps n) → Kept on (entry_at s) (count_of s) g best ready
-  sheet_start g p a =
-      kept_start on (entry_at s) (count_of s) (good s ok).downward (good s ok).few narrow (good s ok).halves keys reps right g (adds_as (ap (table_offers on g keys reps) p) a)
+  pub sheet_start : (g : ℕ) {n : ℕ} {best ready best' ready' : List ℕ} → n ≡ count_of s → Table best ready [] → Adds best ready best' ready' (table_offers on g keys reps n)
+      → Kept on (entry_at s) (count_of s) g best' ready'
+  sheet_start g p t a =
+      kept_start on (entry_at s) (count_of s) (good s ok).downward (good s ok).few narrow (good s ok).halves keys reps right g t (adds_as (ap (table_offers on g keys reps) p) a)
 
   pub sheet_learn : (g x us : ℕ) {best ready best' ready' : List ℕ} → x < count_of s → rep_at (entry_at s) x ≡ x → UsersOf (entry_at s) (count_of s) x us
       → Kept on (entry_at s) (count_of s) g best ready → Adds best ready best' ready' (key_offers on (insert g x) (get_or keys x 0) x ++ set_offers on (insert g x) keys us 256)

@@ -1,24 +1,23 @@
 -- The lists of a set's members in a row, taken from the lowest member on and word by word.
--- Shown: `lists_first` and `lists_next`, the lowest member's list and then the rest's; `lists_empty`, none; `lists_word`, the lists of a set go on with those of its next
--- word. Assumes nothing.
+-- Shown: `lists_next`, the lowest member's list and then the rest's; `lists_empty`, none; `lists_moved`, the lists of a word moved up; `lists_word`, the lists of a
+-- set go on with those of its next word. Assumes nothing.
 use mathlib.Core.Path.{◌≡◌, refl, sym, ap, ap₂, ◌∙◌}
 use mathlib.Core.Bool.{Bool, true, false, xor, cond}
 use mathlib.Core.Logic.{◌⊎◌, inl, inr}
 use mathlib.Core.List.{List, [], ◌++◌, append-nil, append_assoc}
-use Prim.Native.Nat.{ℕ, zero, suc, ◌+◌, ◌*◌, ◌/◌, ◌%◌, ◌^◌, ◌<◌}
+use Prim.Native.Nat.{ℕ, zero, suc, ◌+◌, ◌-◌, ◌*◌, ◌/◌, ◌%◌, ◌^◌, ◌≤◌, ◌<◌}
 use native.Mathlib.Omega.{arith}
 use lib.Bits.{bit_xor}
-use lib.Count.{count_trailing_zeros}
 use lib.Dec.{eqb}
 use lib.ListN.{get_or}
 use borrow.Author.Tests.{eq-eqb, ne_eqb}
-use Rattle.bitset.specs.Set.{member}
+use Rattle.bitset.specs.Set.{member, single}
 use Rattle.bitset.specs.Words.{value}
-use Rattle.bitset.proofs.Laws.Member.{member_empty, member_sum, member_single, xor_false}
+use Rattle.bitset.specs.Inner.{IsLowest}
+use Rattle.bitset.proofs.Laws.Member.{member_empty, member_sum, member_single, member_above, xor_false}
 use Rattle.bitset.proofs.Laws.Words.{Below}
 use Rattle.bitset.proofs.Laws.Union.{word_member}
-use Rattle.bitset.proofs.Laws.Lowest.{lowest_own, lowest_within, lowest_none}
-use Rattle.bitset.proofs.Laws.Bits.{Left, left_rest}
+use Rattle.bitset.proofs.Laws.Bits.{moved_none, moved_own}
 use Rattle.offers.specs.Inner.Offers.{lists_of}
 use Rattle.offers.proofs.Laws.Table.{same_or}
 
@@ -45,27 +44,18 @@ module _ (f : ℕ → List ℕ) (s r t : ℕ) (own : member s t ≡ true) (none 
           ap₂ ◌++◌ (ih (omega arith)) (ap (λ (b : Bool). cond b (f m) []) (sym (rest m (λ e. d (sym e)))))
           ∙ append_assoc (f t) (lists_of f r m) (cond (member r m) (f m) [])
 
--- of a word
-pub lists_first : (f : ℕ → List ℕ) (w : ℕ) → 0 < w → w < 2 ^ 64 → lists_of f w 64 ≡ f (count_trailing_zeros 64 w) ++ lists_of f (bit_xor w (2 ^ count_trailing_zeros 64 w)) 64
+-- the lowest member t of s, and r is what is left
+pub lists_next : (f : ℕ → List ℕ) {s r t : ℕ} (m : ℕ) → IsLowest s t × (r ≡ bit_xor s (single t)) → t < m → lists_of f s m ≡ f t ++ lists_of f r m
 unfolding xor
-lists_first f w p h =
-    lists_from f w (bit_xor w (2 ^ t)) t (lowest_own w p h) (lowest_none w p h) (members t ∙ ap₂ xor (lowest_own w p h) (eq-eqb t t refl))
-    (λ k d. members k ∙ ap (xor (member w k)) (ne_eqb t k (λ e. d (sym e))) ∙ xor_false (member w k)) 64 (lowest_within w p h)
+lists_next f {s} {r} {t} m (low, left) =
+    lists_from f s r t low.own low.none (members t ∙ ap₂ xor low.own (eq-eqb t t refl)) (λ k d. members k ∙ ap (xor (member s k)) (ne_eqb t k (λ e. d (sym e))) ∙ xor_false (member s k)) m
   where
-    t : ℕ
-    t = count_trailing_zeros 64 w
+    members : (k : ℕ) → member r k ≡ xor (member s k) (eqb t k)
+    members k = ap (λ (x : ℕ). member x k) left ∙ member_sum s (2 ^ t) k ∙ ap (xor (member s k)) (member_single t k)
 
-    members : (k : ℕ) → member (bit_xor w (2 ^ t)) k ≡ xor (member w k) (eqb t k)
-    members k = member_sum w (2 ^ t) k ∙ ap (xor (member w k)) (member_single t k)
-
--- of the word 0
-pub lists_empty : (f : ℕ → List ℕ) (w : ℕ) → w ≡ 0 → lists_of f w 64 ≡ []
-lists_empty f w p = lists_none f w 64 (λ k l. ap (λ (x : ℕ). member x k) p ∙ member_empty k)
-
--- the lowest member t and the rest r of a word that isn't 0
-pub lists_next : (f : ℕ → List ℕ) {word w r t : ℕ} → Left word w → ¬ (w ≡ 0) → r ≡ cond (eqb w 0) 0 (bit_xor w (2 ^ count_trailing_zeros 64 w)) → t ≡ count_trailing_zeros 64 w
-    → lists_of f w 64 ≡ f t ++ lists_of f r 64
-lists_next f {w = w} h d p q = lists_first f w (omega arith) h.below ∙ sym (ap₂ (λ (x y : ℕ). f x ++ lists_of f y 64) q (left_rest h d p))
+-- of no members
+pub lists_empty : (f : ℕ → List ℕ) {s : ℕ} (m : ℕ) → s ≡ 0 → lists_of f s m ≡ []
+lists_empty f {s} m p = lists_none f s m (λ k l. ap (λ (x : ℕ). member x k) p ∙ member_empty k)
 
 -- the members from a on
 lists_split : (f : ℕ → List ℕ) (s w a m : ℕ) → ((k : ℕ) → k < m → member s (a + k) ≡ member w k) → lists_of f s (a + m) ≡ lists_of f s a ++ lists_of (λ k. f (a + k)) w m
@@ -76,6 +66,23 @@ lists_split f s w a (suc m) h =
     ap (lists_of f s) p
     ∙ ap₂ (λ (xs : List ℕ) (b : Bool). xs ++ cond b (f (a + m)) []) (lists_split f s w a m (λ k l. h k (omega arith))) (h m (omega arith))
     ∙ append_assoc (lists_of f s a) (lists_of (λ k. f (a + k)) w m) (cond (member w m) (f (a + m)) [])
+
+-- a word moved up
+pub lists_moved : (f : ℕ → List ℕ) (w base : ℕ) → w < 2 ^ 64 → base ≤ 192 → lists_of f (w * 2 ^ base) 256 ≡ lists_of (λ b. f (base + b)) w 64
+lists_moved f w base h l =
+    ap (lists_of f (w * 2 ^ base)) all
+    ∙ lists_split f (w * 2 ^ base) 0 (base + 64) (192 - base) (λ k q. above k ∙ sym (member_empty k))
+    ∙ ap₂ ◌++◌ (lists_split f (w * 2 ^ base) w base 64 (λ k q. moved_own w base k)) (lists_empty (λ k. f (base + 64 + k)) {s = 0} (192 - base) refl)
+    ∙ append-nil (lists_of f (w * 2 ^ base) base ++ lists_of (λ b. f (base + b)) w 64)
+    ∙ ap (λ (xs : List ℕ). xs ++ lists_of (λ b. f (base + b)) w 64) (lists_none f (w * 2 ^ base) base (moved_none w base))
+  where
+    all : 256 ≡ base + 64 + (192 - base)
+    all = omega arith
+
+    above : (k : ℕ) → member (w * 2 ^ base) (base + 64 + k) ≡ false
+    above k =
+        let p : base + 64 + k ≡ base + (64 + k) = omega arith in
+        ap (member (w * 2 ^ base)) p ∙ moved_own w base (64 + k) ∙ member_above w 64 (64 + k) h (omega arith)
 
 -- of words
 module _ (f : ℕ → List ℕ) (ws : List ℕ) (h : Below 64 ws) where

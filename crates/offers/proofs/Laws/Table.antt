@@ -111,17 +111,3 @@ adds_as {best' = b} {ready' = r} p a xs t = subst (λ (zs : List ℕ). Table b r
 
 pub adds_none : (best ready : List ℕ) {zs : List ℕ} → [] ≡ zs → Adds best ready best ready zs
 adds_none best ready p = adds_as p (adds_nothing best ready)
-
--- some of the list `all` was added, and `rest` is left
-abbrev pub Adding : List ℕ → List ℕ → List ℕ → List ℕ → List ℕ → List ℕ → Type 0
-Adding best ready best' ready' rest all = (ys : List ℕ) × Adds best ready best' ready' ys × (ys ++ rest ≡ all)
-
-pub adding_start : (best ready all : List ℕ) → Adding best ready best ready all all
-adding_start best ready all = ([], adds_nothing best ready, refl)
-
-pub adding_more : {best ready best' ready' best'' ready'' rest zs rest' all : List ℕ} → rest ≡ zs ++ rest' → Adding best ready best' ready' rest all → Adds best' ready' best'' ready'' zs
-    → Adding best ready best'' ready'' rest' all
-adding_more {zs = zs} {rest' = rest'} p (ys, a, q) b = (ys ++ zs, adds_then a b, append_assoc ys zs rest' ∙ ap (λ (r : List ℕ). ys ++ r) (sym p) ∙ q)
-
-pub adding_end : {best ready best' ready' rest all : List ℕ} → rest ≡ [] → Adding best ready best' ready' rest all → Adds best ready best' ready' all
-adding_end p (ys, a, q) = adds_as (sym (append-nil ys) ∙ ap (λ (r : List ℕ). ys ++ r) (sym p) ∙ q) a

@@ -11,7 +11,8 @@ use lib.Dec.{eqb, ltb}
 use lib.ListN.{get_or}
 use borrow.Author.Tests.{ltb-true, ltb-false, eq-eqb, ne_eqb}
 use Rattle.bitset.specs.Set.{member}
-use Rattle.bitset.specs.Inner.{LowestOf}
+use Rattle.bitset.specs.Inner.{IsLowest}
+use Rattle.bitset.proofs.Laws.Member.{member_empty}
 use Rattle.deduction.specs.Setting.{Setting}
 use Rattle.deduction.specs.Standard.{least}
 use Rattle.deduction.specs.Run.{no_step, least_of}
@@ -59,23 +60,26 @@ module _ (xs : List ℕ) (c : ℕ → Bool) (v : ℕ → ℕ)
                   omega (arith, own.0, least_under no_step xs (lowest * 65536 + v lowest) own.1)
               at (inr d) = omega (arith, own.0, lower (least_of no_step xs) m, least_under no_step xs (lowest * 65536 + v lowest) own.1)
 
--- h was found as the lowest of those in w, which are those in u that aren't known; u has those that are ready and those that are sums, a
-module _ (on : Setting) (best : List ℕ) (ready empty g a u w h : ℕ) (pa : (k : ℕ) → member a k ≡ summed on empty k)
-    (pu : (k : ℕ) → member u k ≡ (member ready k || member a k)) (pw : (k : ℕ) → member w k ≡ (member u k && not (member g k))) (low : LowestOf w 256 h) where
+-- the lowest head of those in w, which are those in u that aren't known; u has those that are ready and those that are sums, a
+module _ (on : Setting) (best : List ℕ) (ready empty g a u w : ℕ) (pa : (k : ℕ) → member a k ≡ summed on empty k)
+    (pu : (k : ℕ) → member u k ≡ (member ready k || member a k)) (pw : (k : ℕ) → member w k ≡ (member u k && not (member g k))) where
   in_w : (k : ℕ) → member w k ≡ waits on ready empty g k
   unfolding waits
   in_w k = pw k ∙ ap (λ (b : Bool). b && not (member g k)) (pu k ∙ ap (λ (b : Bool). member ready k || b) (pa k))
 
-  found : least (waits on ready empty g) 256 ≡ h
-  found = least_only (waits on ready empty g) 256 h low.within (λ l. sym (in_w h) ∙ low.own l) (λ j l. sym (in_w j) ∙ low.none j l)
-
-  pub next_none : h ≡ 256 → no_step ≡ next_in on best ready empty g
+  pub next_none : w ≡ 0 → next_in on best ready empty g ≡ no_step
   unfolding next_in
-  next_none p = sym (ap (λ (b : Bool). cond b no_step (least (waits on ready empty g) 256 * 65536 + way_of on best empty (least (waits on ready empty g) 256))) (eq-eqb (least (waits on ready empty g) 256) 256 (found ∙ p)))
+  next_none p = ap (λ (b : Bool). cond b no_step (least (waits on ready empty g) 256 * 65536 + way_of on best empty (least (waits on ready empty g) 256))) (eq-eqb (least (waits on ready empty g) 256) 256 all)
+    where
+      all : least (waits on ready empty g) 256 ≡ 256
+      all = least_only (waits on ready empty g) 256 256 (omega arith) (λ l. absurd (omega arith)) (λ j l. sym (in_w j) ∙ ap (λ (x : ℕ). member x j) p ∙ member_empty j)
 
-  pub next_found : ¬ (h ≡ 256) → h * 65536 + cond (member a h) (min (get_or best h 0) 1536) (get_or best h 0) ≡ next_in on best ready empty g
+  pub next_found : {h : ℕ} → IsLowest w h → h < 256 → h * 65536 + cond (member a h) (min (get_or best h 0) 1536) (get_or best h 0) ≡ next_in on best ready empty g
   unfolding next_in way_of
-  next_found d =
+  next_found {h} low l =
       ap (λ (b : Bool). h * 65536 + cond b (min (get_or best h 0) 1536) (get_or best h 0)) (pa h)
       ∙ sym (ap (λ (m : ℕ). m * 65536 + way_of on best empty m) found)
-      ∙ sym (ap (λ (b : Bool). cond b no_step (least (waits on ready empty g) 256 * 65536 + way_of on best empty (least (waits on ready empty g) 256))) (ne_eqb (least (waits on ready empty g) 256) 256 (λ q. d (sym found ∙ q))))
+      ∙ sym (ap (λ (b : Bool). cond b no_step (least (waits on ready empty g) 256 * 65536 + way_of on best empty (least (waits on ready empty g) 256))) (ne_eqb (least (waits on ready empty g) 256) 256 (λ q. omega (arith, found, q))))
+    where
+      found : least (waits on ready empty g) 256 ≡ h
+      found = least_only (waits on ready empty g) 256 h (omega arith) (λ q. sym (in_w h) ∙ low.own) (λ j q. sym (in_w j) ∙ low.none j q)

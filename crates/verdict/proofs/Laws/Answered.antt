@@ -22,7 +22,6 @@ use Rattle.dag.proofs.Laws.Table.{when_has, or_else_has, refusal_named_lem}
 use Rattle.derive.specs.Bytes.{steps_bytes}
 use Rattle.derive.specs.Inner.Ran.{verdict_of}
 use Rattle.derive.specs.declared.run.Ended.{Ended}
-use Rattle.derive.specs.declared.run.Verdict as program
 use Rattle.verdict.specs.Buffer.{front, gained_in, steps_in}
 use Rattle.verdict.specs.Refused.{refusal_of}
 use Rattle.verdict.specs.Demands.{verdict_code, Meets, Demanded}
@@ -189,12 +188,9 @@ pub answered_few : (on : Setting) (limit : ℕ) (s : List ℕ) (cut budget : ℕ
 answered_few on limit s cut budget out out' r d ok =
     le_trans (le_of_eq d.count) (course_budget (run_is_course on s cut budget (ok_sheet limit s cut budget (length out) ok) (ok_cut limit s cut budget (length out) ok)))
 
-module _ (on : Setting) (limit : ℕ) (s : List ℕ) (cut budget : ℕ) (out out' : List ℕ) (r : Ended) (d : Decided on s cut budget out out' r) (ok : refusal_of limit s cut budget (length out) ≡ 0) (v : program.Verdict) (is : r.verdict ≡ v) where
-  number_is : verdict_code (verdict_of v) + r.made ≡ verdict_code (outcome_of on s cut budget).verdict + length (outcome_of on s cut budget).steps
-  number_is = ap₂ (λ (w : Verdict) (k : ℕ). verdict_code w + k) (ap verdict_of (sym is) ∙ d.verdict) d.count
-
-  pub answered : verdict_code (verdict_of v) + r.made ≡ answer_of on limit s cut budget (length out)
-  answered = number_is ∙ sym (accepted_answer on limit s cut budget out ok)
+module _ (on : Setting) (limit : ℕ) (s : List ℕ) (cut budget : ℕ) (out out' : List ℕ) (r : Ended) (d : Decided on s cut budget out out' r) (ok : refusal_of limit s cut budget (length out) ≡ 0) where
+  pub answered : verdict_code (verdict_of r.verdict) + r.made ≡ answer_of on limit s cut budget (length out)
+  answered = ap₂ (λ (w : Verdict) (k : ℕ). verdict_code w + k) d.verdict d.count ∙ sym (accepted_answer on limit s cut budget out ok)
 
   pub answered_buffer : out' ≡ buffer_of on limit s cut budget out
   answered_buffer = d.bytes ∙ sym (accepted_buffer on limit s cut budget out ok)

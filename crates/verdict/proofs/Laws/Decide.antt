@@ -16,6 +16,7 @@ use Rattle.deduction.specs.Run.{knowledge}
 use Rattle.deduction.proofs.Standard.{rep_le, rep_rep, rep_set}
 use Rattle.dag.specs.Sheet.{count_of, goal_of}
 use Rattle.dag.specs.Record.{entry_at}
+use Rattle.knowledge.specs.declared.lines.Lines.{Lines}
 use Rattle.knowledge.specs.Inner.Lines.{set_in, line_at, head_in}
 use Rattle.derive.specs.Bytes.{steps_bytes}
 use Rattle.derive.specs.Inner.Machine.{Ended}
@@ -40,8 +41,8 @@ module _ (on : Setting) (s : List ℕ) (cut budget : ℕ) where
   unfolding outcome_of
   ends = machine_run on (entry_at s) (count_of s) (goal_of s) budget (start_heads s cut)
 
-  module _ (reps out : List ℕ) (r : program.Ended) (rs us cs : List (List ℕ)) (es out' : List ℕ)
-      (ran : Ran on s reps (knowledge (entry_at s) (start_heads s cut)) budget front out r rs us cs es out') where
+  module _ (reps out : List ℕ) (r : program.Ended) (ls : Lines) (out' : List ℕ)
+      (ran : Ran on s reps (knowledge (entry_at s) (start_heads s cut)) budget front out r ls out') where
     verdict : verdict_of r.verdict ≡ (outcome_of on s cut budget).verdict
     verdict = ran.verdict ∙ ap (λ (o : Ended). o.verdict) ends
 
@@ -56,7 +57,7 @@ module _ (on : Setting) (s : List ℕ) (cut budget : ℕ) where
 
     module _ (right : (i : ℕ) → i < count_of s → get_or reps i 0 ≡ rep_at (entry_at s) i) (within : goal_of s < count_of s) where
       -- the line of the goal's head is what the rows at the end leave of the goal's set
-      goal_line_lem : line_at rs us (rep_at (entry_at s) (goal_of s)) ≡ reduce (knowledge (entry_at s) (outcome_of on s cut budget).learnt).rows (set_at (entry_at s) (goal_of s))
+      goal_line_lem : line_at ls.remainders ls.used (rep_at (entry_at s) (goal_of s)) ≡ reduce (knowledge (entry_at s) (outcome_of on s cut budget).learnt).rows (set_at (entry_at s) (goal_of s))
       goal_line_lem =
           ran.lines.line (rep_at (entry_at s) (goal_of s)) live
           ∙ ap₂ (λ (o : Ended) (v : ℕ). reduce o.final.rows v) ends (rep_set (entry_at s) (goal_of s))
@@ -70,7 +71,7 @@ module _ (on : Setting) (s : List ℕ) (cut budget : ℕ) where
               (eq-eqb (get_or reps (rep_at (entry_at s) (goal_of s)) 0) (rep_at (entry_at s) (goal_of s)) (right (rep_at (entry_at s) (goal_of s)) below ∙ rep_rep (entry_at s) (goal_of s)))
 
       module _ (goal remainder used line-remainder line-used : List ℕ) (head : ℕ) (set : value goal ≡ set_at (entry_at s) (goal_of s))
-          (at : head ≡ get_or reps (goal_of s) 0) (read : reduced_of line-remainder line-used ≡ line_at rs us head)
+          (at : head ≡ get_or reps (goal_of s) 0) (read : reduced_of line-remainder line-used ≡ line_at ls.remainders ls.used head)
           (found : reduced_of remainder used ≡ missing_as (verdict_of r.verdict) (missing_in on (reduced_of line-remainder line-used) (value goal))) where
         -- so what is missing of the goal is read off it
         missing : reduced_of remainder used ≡ missing_of on s cut budget
@@ -80,7 +81,7 @@ module _ (on : Setting) (s : List ℕ) (cut budget : ℕ) where
             ∙ ap₂ missing_as verdict
             (ap (missing_in on (reduced_of line-remainder line-used)) set
             ∙ missing_by_rows on (reduced_of line-remainder line-used) (knowledge (entry_at s) (outcome_of on s cut budget).learnt).rows (set_at (entry_at s) (goal_of s))
-            (read ∙ ap (line_at rs us) (at ∙ right (goal_of s) within) ∙ goal_line_lem))
+            (read ∙ ap (line_at ls.remainders ls.used) (at ∙ right (goal_of s) within) ∙ goal_line_lem))
 
         pub decided : front ≤ length out → (out'' : List ℕ) → out'' ≡ front_bytes (value r.known) (value used) (value remainder) ++ drop front out' → Decided on s cut budget out out'' r
         unfolding front_of

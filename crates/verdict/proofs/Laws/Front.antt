@@ -1,6 +1,6 @@
 -- The front of the buffer: which sets stand there, and how they are written. Assumes nothing.
-use mathlib.Core.Path.{◌≡◌, refl, sym, ap, ap₂, ◌∙◌}
-use mathlib.Core.Bool.{true, false, true≢false, false≢true, cond}
+use mathlib.Core.Path.{◌≡◌, sym, ap, ap₂, ◌∙◌}
+use mathlib.Core.Bool.{cond}
 use mathlib.Core.List.{List, ◌++◌, append_assoc}
 use Prim.Native.Nat.{ℕ, ◌+◌, ◌-◌, ◌≤◌}
 use native.Mathlib.Omega.{arith}
@@ -12,38 +12,15 @@ use Rattle.bitset.proofs.Laws.Bytes.{length_bytes_of}
 use Rattle.bitset.proofs.Laws.Choice.{when_le}
 use Rattle.deduction.specs.Setting.{Setting}
 use Rattle.deduction.specs.Elimination.{Row, Reduced, reduce}
-use Rattle.deduction.specs.Run.{Verdict, derivable, underivable, exhausted}
 use Rattle.derive.proofs.Laws.Written.{with_set, set_stored}
 use Rattle.verdict.specs.Buffer.{front}
-use Rattle.verdict.specs.Answer.{missing_as, missing_by, front_bytes}
-use Rattle.verdict.specs.Inner.Decide.{is_underivable, missing_in}
-
--- with sum what is missing is the line, and without it the set itself
-pub missing_with_sum : (on : Setting) (line : Reduced) (v : ℕ) → on 6 ≡ true → missing_in on line v ≡ line
-unfolding missing_in
-missing_with_sum on line v w = rw w
-
-pub missing_without_sum : (on : Setting) (line : Reduced) (v : ℕ) → on 6 ≡ false → missing_in on line v ≡ record { remainder = v; used = 0 }
-unfolding missing_in
-missing_without_sum on line v w = rw w
+use Rattle.verdict.specs.Answer.{missing_by, front_bytes}
+use Rattle.verdict.specs.Inner.Decide.{missing_in}
 
 -- with the line that the rows leave it is what is missing by them
 pub missing_by_rows : (on : Setting) (line : Reduced) (rows : List Row) (v : ℕ) → line ≡ reduce rows v → missing_in on line v ≡ missing_by on rows v
 unfolding missing_in missing_by
 missing_by_rows on line rows v p = ap (λ (x : Reduced). cond (on 6) x (record { remainder = v; used = 0 })) p
-
--- it counts at out of reach alone
-pub missing_tested : (v : Verdict) (x : Reduced) → is_underivable v ≡ true → x ≡ missing_as v x
-unfolding is_underivable missing_as
-missing_tested derivable x p = absurd (false≢true p)
-missing_tested underivable x p = refl
-missing_tested exhausted x p = absurd (false≢true p)
-
-pub missing_nothing : (v : Verdict) (x : Reduced) → is_underivable v ≡ false → record { remainder = 0; used = 0 } ≡ missing_as v x
-unfolding is_underivable missing_as
-missing_nothing derivable x p = refl
-missing_nothing underivable x p = absurd (true≢false p)
-missing_nothing exhausted x p = refl
 
 -- three sets, each written to the part of the buffer from its place on
 pub front_written : (a b c : ℕ) (d : List ℕ) {d₁ w₂ d₂ w₃ : List ℕ} → front ≤ length d → d₁ ≡ with_set a d → w₂ ≡ with_set b (mid_of 32 (length d₁ - 32) d₁)

@@ -1,8 +1,8 @@
 -- `verdict::decide` meets its contract: the tables, what is known at the start, and the run from there.
-use mathlib.Core.Path.{refl, ap, ◌∙◌}
+use mathlib.Core.Path.{ap, ◌∙◌}
 use Prim.Native.Nat.{ℕ, ◌<◌}
 use native.Mathlib.Nat.{le_of_eq, lt_of_le_of_lt, lt_of_lt_of_le}
-use Rattle.bitset.proofs.Laws.Words.{words_zero, value_zero}
+use Rattle.bitset.proofs.Laws.Words.{value_zero}
 use Rattle.dag.specs.Sheet.{goal_of}
 use Rattle.dag.proofs.Laws.Good.{good}
 use Rattle.knowledge.specs.Inner.Lines.{set_in}
@@ -14,26 +14,17 @@ use Rattle.verdict.proofs.decide.Goals.{After-goal}
 
 -- the goal is an entry's number
 goal_low : (c : After-goal) → c.goal.result < 256
-goal_low c = let g = good c.args.s.now c.requires.0 in lt_of_lt_of_le (lt_of_le_of_lt (le_of_eq c.goal.ensures) g.goal) g.few
+goal_low c = let g = good c.args.sheet.bytes.now c.args.sheet.good in lt_of_lt_of_le (lt_of_le_of_lt (le_of_eq c.goal.ensures) g.goal) g.few
 
-pub tables-requires : goal.tables-requires
-tables-requires c = record { good = c.requires.0; sized = record { key = refl; set = refl; rep = refl } }
-
-pub offset_bounds-remainders-goal : goal.offset_bounds-remainders-goal
-offset_bounds-remainders-goal c = omega (arith, goal_low c)
-
-pub bounds-remainders-goal : goal.bounds-remainders-goal
-bounds-remainders-goal c = goal_low c
+pub bounds-lines-goal : goal.bounds-lines-goal
+bounds-lines-goal c = goal_low (goal.at.bounds-lines-goal c).After-goal
 
 pub state-start-requires : goal.state-start-requires
-state-start-requires c = let e = c.tables.ensures in
+state-start-requires c = let e = c.fill.ensures in
     record {
-      good = c.requires.0;
-      within = c.requires.1;
+      within = c.requires.0;
       key = e.right.key;
       rep = e.right.rep;
-      sizes = record { remainders = e.sized.set; used = refl; empty = words_zero };
-      size = refl;
       fresh = e.right.set;
       unused = table_zero 256 (0 ∷ 0 ∷ 0 ∷ 0 ∷ []) value_zero;
       flat = table_zero 256 (0 ∷ 0 ∷ 0 ∷ 0 ∷ []) value_zero;
@@ -41,16 +32,9 @@ state-start-requires c = let e = c.tables.ensures in
     }
 
 pub run_from-requires : goal.run_from-requires
-run_from-requires c = let m = c.state-start in let g = c.goal in let t = c.tables in let e = t.ensures in (
-  record {
-    good = c.requires.0;
-    right = record { key = e.right.key; rep = e.right.rep };
-    sizes = m.ensures.lines.sizes;
-    size = m.ensures.lines.size;
-    limit = c.requires.2;
-    space = omega (arith, c.requires.3);
-  },
-  ap (λ (i : ℕ). set_in t.new.sets i) g.ensures ∙ e.right.set (goal_of c.args.s.now) (good c.args.s.now c.requires.0).goal,
+run_from-requires c = let s = c.args.sheet in let e = c.fill.ensures in (
+  record { right = record { key = e.right.key; rep = e.right.rep }; limit = c.requires.1; space = omega (arith, c.requires.2) },
+  ap (λ (i : ℕ). set_in c.fill.new.sets i) c.goal.ensures ∙ e.right.set (goal_of s.bytes.now) (good s.bytes.now s.good).goal,
 )
 
 pub returns : goal.returns

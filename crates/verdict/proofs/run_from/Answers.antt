@@ -15,22 +15,21 @@ use Rattle.verdict.proofs.run_from.Goals.{After-goal-goal}
 
 -- the goal is an entry's number
 goal_low : (c : After-goal-goal) → c.goal-goal.result < 256
-goal_low c = let g = good c.args.s.now c.requires.0.good in lt_of_lt_of_le (lt_of_le_of_lt (le_of_eq c.goal-goal.ensures) g.goal) g.few
+goal_low c = let g = good c.args.sheet.bytes.now c.args.sheet.good in lt_of_lt_of_le (lt_of_le_of_lt (le_of_eq c.goal-goal.ensures) g.goal) g.few
 
 pub run-ended-requires : goal.run-ended-requires
-run-ended-requires c = let p = c.requires.0 in
-    record { good = p.good; right = p.right; sizes = p.sizes; size = p.size; limit = p.limit; space = omega (arith, p.space) }
+run-ended-requires c = let p = c.requires.0 in record { right = p.right; limit = p.limit; space = omega (arith, p.space) }
 
-pub bounds-reps-goal : goal.bounds-reps-goal
-bounds-reps-goal c = omega (arith, goal_low (goal.at.bounds-reps-goal c).After-goal-goal)
+pub bounds-tables-goal : goal.bounds-tables-goal
+bounds-tables-goal c = omega (arith, goal_low (goal.at.bounds-tables-goal c).After-goal-goal)
 
 pub write_front-requires : goal.write_front-requires
 write_front-requires c = omega (arith, c.requires.0.space)
 
 pub returns : goal.returns
 returns c = let w = c.write_front in let x = c.missing-missing in let l = c.line_of-line in let g = c.goal-goal in let r = c.run-ended in λ cut start. let p = c.requires.0 in
-    let ok = good c.args.s.now p.good in
-    decided (switches c.args.rules) c.args.s.now cut c.args.budget c.args.reps.now c.args.out.now r.result _ _ _ _ _
-    (r.ensures (knowledge (entry_at c.args.s.now) (start_heads c.args.s.now cut)) start.members start.lines)
-    p.right.rep ok.goal _ x.result.remainder x.result.used l.result.remainder l.result.used _ c.requires.1
-    (ap (λ (i : ℕ). get_or c.args.reps.now i 0) g.ensures) l.ensures x.ensures (omega (arith, p.space)) w.new.out w.ensures
+    let s = c.args.sheet.bytes.now in
+    decided (switches c.args.rules) s cut c.args.budget c.args.tables.now.reps c.args.out.now r.result _ _
+    (r.ensures (knowledge (entry_at s) (start_heads s cut)) start.members start.lines)
+    p.right.rep (good s c.args.sheet.good).goal _ x.result.remainder x.result.used l.result.remainder l.result.used _ c.requires.1
+    (ap (λ (i : ℕ). get_or c.args.tables.now.reps i 0) g.ensures) l.ensures x.ensures (omega (arith, p.space)) w.new.out w.ensures

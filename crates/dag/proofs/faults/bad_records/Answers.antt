@@ -1,32 +1,27 @@
--- `dag::faults::bad_records` meets its contract. The loop's invariant: no record so far is bad.
-use mathlib.Core.Path.{◌≡◌, refl, sym, ap, ◌∙◌}
+-- `dag::faults::bad_records` meets its contract: the first record with a fault, if any.
 use native.Mathlib.Omega.{arith}
-use borrow.Author.Rules.{rules}
-use Rattle.dag.proofs.Laws.Refusal.{first_more, first_found}
+use Rattle.std.proofs.lemmas.Result.{err_from_is_err_and}
+use mathlib.Core.Path.{sym}
 use Rattle.dag.specs.Sheet.{count_of}
-use Rattle.dag.specs.Refusal.{first, bad_record_at, bad_records}
+use Rattle.dag.specs.Refusal.{first, bad_records, bad_record_at}
+use Rattle.dag.proofs.Laws.Refusal.{first_more}
+use Rattle.dag.proofs.Laws.Code.{first_code}
 use Rattle.dag.proofs.faults.bad_records.Goals as goal
-use Rattle.dag.proofs.faults.bad_records.Goals.{After-loop-i}
-
-done : (c : After-loop-i) → c.loop-i.i ≡ count_of c.args.s.now
-done c = omega arith
 
 pub loop-i-init : goal.loop-i-init
 unfolding first
-loop-i-init c = (search rules, c.count-n.ensures, refl)
+loop-i-init c = grind arith
 
-pub returns-then-fault-ne0 : goal.returns-then-fault-ne0
+pub returns-in_err-bad_record_at : goal.returns-in_err-bad_record_at
 unfolding bad_records
-returns-then-fault-ne0 c = let s = c.args.s.now in
-    let l = c.loop-i in
-    let e : c.before.bad_record_at-fault.result ≡ bad_record_at s l.i = c.before.bad_record_at-fault.ensures in
-    e ∙ first_found (bad_record_at s) l.i (count_of s) (omega arith) l.invariant.2 (λ z. c.if-fault-ne0.true (e ∙ z))
+returns-in_err-bad_record_at c =
+    let p = err_from_is_err_and c.from_residual.result c.from_residual.ensures.1 in
+    let s = c.args.s.now in
+    rw (p.1, p.2) (first_code (bad_record_at s) c.loop-i.i (count_of s) c.in_err-bad_record_at.field-0.0 (omega arith) c.loop-i.invariant c.in_err-bad_record_at.ensures)
 
 pub loop-i-preserved : goal.loop-i-preserved
-loop-i-preserved c = let s = c.args.s.now in
-    let l = c.loop-i in
-    (omega arith, c.before.before.before.before.count-n.ensures, first_more (bad_record_at s) l.i l.invariant.2 (sym c.before.bad_record_at-fault.ensures ∙ c.if-fault-ne0.false))
+loop-i-preserved c = first_more (bad_record_at c.args.s.now) c.loop-i.i c.loop-i.invariant (sym c.in_ok-bad_record_at.ensures)
 
 pub returns : goal.returns
 unfolding bad_records
-returns c = let s = c.args.s.now in sym (ap (first (bad_record_at s)) (sym (done c)) ∙ c.loop-i.invariant.2)
+returns c = grind arith

@@ -9,8 +9,9 @@ use Rattle.derive.proofs.Laws.Along.{Safe, Along}
 use Rattle.derive.proofs.run.run.Given as goal
 
 abbrev pub invariant-loop-users : goal.invariant-loop-users
-invariant-loop-users l = Safe l.s l.keys l.reps l.budget l.front l.initial.out l.n l.goal_head l.users l.remainders l.used l.columns l.empty l.have l.made l.out
-    × ((k : Knowledge) → value l.initial.have ≡ k.known → LinesOf l.s l.reps k.rows l.initial.remainders l.initial.used l.initial.columns l.initial.empty → Along (switches l.rules) l.s l.reps k l.budget l.front l.initial.out l.remainders l.used l.columns l.empty l.have l.best l.ready l.made l.out)
+invariant-loop-users l = let s = l.sheet.bytes.now in
+    Safe s l.tables.keys l.tables.reps l.budget l.front l.initial.out l.rules l.goal_head l.users l.search l.made l.out
+    × ((k : Knowledge) → value l.fn.known ≡ k.known → LinesOf s l.tables.reps k.rows l.initial.lines → Along (switches l.rules) s l.tables.reps k l.budget l.front l.initial.out l.lines l.search l.made l.out)
 
 abbrev pub decreases-loop-users : goal.decreases-loop-users
 decreases-loop-users l = l.budget - l.made

@@ -5,4 +5,4 @@ use Rattle.offers.proofs.users.join.Goals as goal
 
 pub returns : goal.returns
 returns c = let a = c.args in
-    joined_line a.users.now a.x a.i c.insert.result c.requires (search rules) c.insert.ensures
+    joined_line a.users.now a.x a.i c.insert.result (search rules) (search rules) c.insert.ensures

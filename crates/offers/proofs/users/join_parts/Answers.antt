@@ -1,13 +1,8 @@
 -- `offers::users::join_parts` meets its contract: by the test whether the entry has parts.
+use borrow.Author.Rules.{rules}
 use Rattle.offers.specs.Inner.Users.{key_uses}
 use Rattle.offers.proofs.Laws.Users.{joined_none, joined_as, joined_then, uses_none, uses_parts}
 use Rattle.offers.proofs.users.join_parts.Goals as goal
-
-pub join-requires-then-has_parts : goal.join-requires-then-has_parts
-join-requires-then-has_parts c = c.join.ensures.size
-
-pub join_opener-requires : goal.join_opener-requires
-join_opener-requires c = c.join-then-has_parts.ensures.size
 
 pub returns-then-has_parts : goal.returns-then-has_parts
 returns-then-has_parts c = let a = c.args in
@@ -16,4 +11,4 @@ returns-then-has_parts c = let a = c.args in
 
 pub returns-else-has_parts : goal.returns-else-has_parts
 returns-else-has_parts c = let a = c.args in
-    joined_none (key_uses a.key) a.i a.users.now c.requires (λ x l. uses_none a.key c.kind.ensures c.has_parts.ensures c.if-has_parts.false x)
+    joined_none (key_uses a.key) a.i a.users.now (search rules) (λ x l. uses_none a.key c.kind.ensures c.has_parts.ensures c.if-has_parts.false x)

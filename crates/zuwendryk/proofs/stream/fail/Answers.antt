@@ -4,8 +4,8 @@ use Rattle.zuwendryk.proofs.stream.fail.Goals as goal
 
 pub returns : goal.returns
 returns g c =
-    let (a, what) = c.tell.ensures in
-    let (b, colon) = c.tell-2.ensures in
-    let (n, text) = c.tell-3.ensures in
-    let (d, end) = c.tell-4.ensures in
+    let (a, what) = c.write_all.ensures.front in
+    let (b, colon) = c.write_all-2.ensures.front in
+    let (n, text) = c.write_all-3.ensures.front in
+    let (d, end) = c.write_all-4.ensures.front in
     (a, b, _, d, Appends-trans _ _ _ _ _ what (Appends-trans _ _ _ _ _ colon (Appends-trans _ _ _ _ _ text end)))

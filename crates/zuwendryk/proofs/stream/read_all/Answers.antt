@@ -16,6 +16,5 @@ front a k n xs ys within fits =
 
 pub loop-done-preserved : goal.loop-done-preserved
 loop-done-preserved g c =
-    let part = c.read_some-part in
-    let bytes = Consumes-trans _ _ _ _ _ c.loop-done.invariant.2 part.ensures.bytes in
+    let bytes = Consumes-trans _ _ _ _ _ c.loop-done.invariant.2 c.in-Ok.ensures.bytes.0 in
     (search rules, search rules, subst (Consumes _ _) (front _ _ _ _ _ c.loop-done.invariant.1 (search rules)) bytes)

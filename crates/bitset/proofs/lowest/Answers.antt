@@ -1,7 +1,0 @@
--- `bitset::lowest` meets its contract: there are at most 64 trailing zeros.
-use native.Mathlib.Omega.{arith}
-use lib.Count.{trailing_le}
-use Rattle.bitset.proofs.lowest.Goals as goal
-
-pub overflow_cast-result : goal.overflow_cast-result
-overflow_cast-result c = record { fits = omega (arith, trailing_le 64 c.args.w) }
