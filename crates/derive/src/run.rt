@@ -6,7 +6,7 @@ ghost use Rattle.deduction.specs.Elimination.{Row, Knowledge, reduce, add_row};
 ghost use Rattle.knowledge.specs.Inner.Lines.{KeptIn};
 ghost use Rattle.derive.specs.Bytes.{step_bytes};
 ghost use Rattle.derive.specs.Inner.Step.{step_in};
-ghost use Rattle.derive.specs.Inner.Ran.{Learnt, Ready, LinesOf, Ran};
+ghost use Rattle.derive.specs.Inner.Ran.{end_as, Learnt, Ready, LinesOf, Ran};
 
 use crate::{whole, writer};
 use canonical::Tables;
@@ -28,6 +28,17 @@ pub struct Ended {
     pub verdict: Verdict,
     pub made: u16,
     pub known: [u64; 4],
+}
+
+// The end of a run.
+fn end_as(verdict: Verdict, made: u16, known: [u64; 4]) -> Ended
+    ensures { result ≡ end_as verdict made known }
+{
+    Ended {
+        verdict,
+        made,
+        known,
+    }
 }
 
 // Makes the step of number x, which gains this head: writes it at the front of out and learns the head in the lines.
@@ -75,25 +86,13 @@ pub fn run(
     // A loop, since the steps made are compared with the budget only where a step follows.
     loop {
         if bitset::holds(&search.known, goal_head) {
-            return Ended {
-                verdict: Verdict::Derivable,
-                made,
-                known: search.known,
-            };
+            return end_as(Verdict::Derivable, made, search.known);
         }
         let Some(x) = search.next(lines.empty) else {
-            return Ended {
-                verdict: Verdict::Underivable,
-                made,
-                known: search.known,
-            };
+            return end_as(Verdict::Underivable, made, search.known);
         };
         if made == budget {
-            return Ended {
-                verdict: Verdict::Exhausted,
-                made,
-                known: search.known,
-            };
+            return end_as(Verdict::Exhausted, made, search.known);
         }
         let from = front + 40 * (made as usize);
         let head = (x / 65536 % 256) as u8;

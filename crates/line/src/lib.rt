@@ -1,7 +1,7 @@
 // The text of a card, made in a lent buffer. Each method adds to the end of the text.
 #![tactic(auto)]
 
-ghost use Rattle.std.specs.Prelude.{◌≡◌, ◌++◌};
+ghost use Rattle.std.specs.Prelude.{◌≡◌, ◌++◌, ◌+◌, ◌≤◌};
 ghost use Rattle.bitset.specs.Words.{value};
 ghost use Rattle.line.specs.Words.{newline};
 ghost use Rattle.line.specs.Line.{spaced, field, source, sources, rule_text, pair_line, goal_line, out_line, reached_line, step_line, refused_line};
@@ -169,7 +169,8 @@ impl<'a> Text<'a> {
     // rung HEAD WORD SOURCES
     pub fn step_line(&mut self, rung: Rung)
         requires { Fits self.old (step_line rung.head rung.rule rung.first rung.second (value rung.set)) }
-        ensures { Adds self.old (step_line rung.head rung.rule rung.first rung.second (value rung.set)) self.new }
+        ensures text { Adds self.old (step_line rung.head rung.rule rung.first rung.second (value rung.set)) self.new }
+        ensures short { self.new.len ≤ self.old.len + 1050 }
     {
         self.field(b"rung", u32::from(rung.head));
         self.rule(rung);

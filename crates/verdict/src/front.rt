@@ -21,7 +21,6 @@ pub struct Reduced {
 }
 
 // What is missing of an entry with this set and this line: the line. Without the sum rule it is the set itself.
-#[tactic(auto, unfolding(crate::specs::Inner::Decide::missing_in))]
 fn missing_by(rules: u8, line: Reduced, set: [u64; 4]) -> Reduced
     ensures { reduced_of result.remainder result.used ≡ missing_in (switches rules) (reduced_of line.remainder line.used) (value set) }
 {

@@ -118,16 +118,22 @@ module _ {p : ℕ → Bool} {n s : ℕ} (c : Candidates p n s) {r : Option ℕ} 
   pub found_below : (i : ℕ) → r ≡ Some i → i < n
   found_below i e = c.within i (f.own i e).0
 
+  none_below : (k : ℕ) → k < n → k < unwrap_or r 256 → p k ≡ false
+  none_below k l h = by (p k) refl
+    where
+      by : (b : Bool) → p k ≡ b → p k ≡ false
+      by false g = g
+      by true g = f.none k (c.every k l g) h
+
+  -- what is found is the lowest, whatever n is
+  pub found_own : (i : ℕ) → r ≡ Some i → i ≡ least p n
+  found_own i e = let l = found_below i e in
+      search_found p n i l (λ k h. none_below k (omega arith) (subst (λ (x : Option ℕ). k < unwrap_or x 256) (sym e) h)) (f.own i e).1
+
+  -- and where none is found, that is n
   pub found_least : n ≤ 256 → unwrap_or r n ≡ least p n
   found_least few = go r refl
     where
-      none : (k : ℕ) → k < n → k < unwrap_or r 256 → p k ≡ false
-      none k l h = by (p k) refl
-        where
-          by : (b : Bool) → p k ≡ b → p k ≡ false
-          by false g = g
-          by true g = f.none k (c.every k l g) h
-
       go : (o : Option ℕ) → r ≡ o → unwrap_or o n ≡ least p n
-      go None e = search_none p n (λ k l. none k l (subst (λ (x : Option ℕ). k < unwrap_or x 256) (sym e) (omega arith)))
-      go (Some i) e = let l = found_below i e in search_found p n i l (λ k h. none k (omega arith) (subst (λ (x : Option ℕ). k < unwrap_or x 256) (sym e) h)) (f.own i e).1
+      go None e = search_none p n (λ k l. none_below k l (subst (λ (x : Option ℕ). k < unwrap_or x 256) (sym e) (omega arith)))
+      go (Some i) e = found_own i e

@@ -19,6 +19,6 @@ pub loop-i-preserved : goal.loop-i-preserved
 loop-i-preserved c = let l = c.loop-i in
     let r = c.read_rung.result in
     let p = c.step_line.ensures in (
-      omega (arith, l.invariant.0, p.text.place, step_length r.head r.rule r.first r.second (value r.set) (omega arith) (omega arith) (omega arith)),
-      steps_more c.args.buffer.now l.i r l.invariant.1 c.read_rung.ensures p,
+      omega (arith, l.invariant.0, p.short),
+      steps_more c.args.buffer.now l.i r l.invariant.1 c.read_rung.ensures p.text,
     )

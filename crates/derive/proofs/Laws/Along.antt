@@ -33,6 +33,7 @@ use Rattle.offers.specs.Inner.Next.{next_in}
 use Rattle.derive.specs.Inner.Step.{step_in}
 use Rattle.derive.specs.Inner.Machine.{Ended, step_next}
 use Rattle.derive.specs.Inner.Ran.{verdict_of, end_as, Learnt, Ready, LinesOf, end_of, Ran}
+use Rattle.derive.specs.declared.run.Ended as program
 use Rattle.derive.specs.declared.run.Verdict.{Verdict}
 use Rattle.derive.specs.declared.run.Verdict.TheVariants.{Derivable, Underivable, Exhausted}
 use Rattle.derive.proofs.Laws.Machine.{prepend, prepend_more, prepend_verdict, prepend_steps, prepend_final, ended_as, machine_derivable, machine_underivable, machine_exhausted, machine_step}
@@ -92,9 +93,9 @@ module _ {s keys reps : List ℕ} {k : Knowledge} {budget front : ℕ} {out₀ :
   on = switches rules
 
   -- the rest of the run is no step: the run ends here
-  along_end : (v : Verdict) → end_of on s (budget - made) a.state ≡ ended_as on (entry_at s) (count_of s) (goal_of s) a.state (verdict_of v)
+  along_ended : (v : Verdict) → end_of on s (budget - made) a.state ≡ ended_as on (entry_at s) (count_of s) (goal_of s) a.state (verdict_of v)
       → Ran on s reps k budget front out₀ (end_as v made q.known) lines out
-  along_end v p =
+  along_ended v p =
       let o = ended_as on (entry_at s) (count_of s) (goal_of s) a.state (verdict_of v) in
       let e : end_of on s budget k ≡ prepend a.done o = a.rest ∙ ap (prepend a.done) p in
       let steps : (end_of on s budget k).steps ≡ a.done = ap (λ (x : Ended). x.steps) e ∙ prepend_steps a.done o ∙ append-nil a.done in
@@ -107,14 +108,18 @@ module _ {s keys reps : List ℕ} {k : Knowledge} {budget front : ℕ} {out₀ :
         bytes = a.bytes ∙ ap (λ (ss : List Step). take front out₀ ++ (steps_bytes ss ++ drop (front + 40 * made) out₀)) (sym steps);
       }
 
+  along_end : {r : program.Ended} (v : Verdict) → r ≡ end_as v made q.known → end_of on s (budget - made) a.state ≡ ended_as on (entry_at s) (count_of s) (goal_of s) a.state (verdict_of v)
+      → Ran on s reps k budget front out₀ r lines out
+  along_end v same p = subst (λ (r : program.Ended). Ran on s reps k budget front out₀ r lines out) (sym same) (along_ended v p)
+
   -- the test whether the goal is known, and the number found, are the theory's
   module _ {t : Bool} (test : t ≡ member (value q.known) goal-head) where
     tested : theory.reached (entry_at s) (goal_of s) a.state ≡ t
     unfolding theory.reached
     tested = ap₂ member (sym a.known) (sym z.goal) ∙ sym test
 
-    pub along_derivable : t ≡ true → Ran on s reps k budget front out₀ (end_as Derivable made q.known) lines out
-    along_derivable p = along_end Derivable (machine_derivable on (entry_at s) (count_of s) (goal_of s) a.state (budget - made) (tested ∙ p))
+    pub along_derivable : {r : program.Ended} → t ≡ true → r ≡ end_as Derivable made q.known → Ran on s reps k budget front out₀ r lines out
+    along_derivable p same = along_end Derivable same (machine_derivable on (entry_at s) (count_of s) (goal_of s) a.state (budget - made) (tested ∙ p))
 
     module _ (unmet : t ≡ false) where
       -- the next number by the table
@@ -127,8 +132,8 @@ module _ {s keys reps : List ℕ} {k : Knowledge} {budget front : ℕ} {out₀ :
           ∙ sheet_least on s z.good a.state (value lines.empty) (subst (λ (g : ℕ). Kept on (entry_at s) (count_of s) g q.best q.ready) a.known a.offers)
           (sums_of (entry_at s) (count_of s) keys reps z.ready.right a.state a.lines)
 
-      pub along_underivable : n ≡ theory.no_step → Ran on s reps k budget front out₀ (end_as Underivable made q.known) lines out
-      along_underivable p = along_end Underivable (machine_underivable on (entry_at s) (count_of s) (goal_of s) a.state (budget - made) (tested ∙ unmet) (sym found ∙ p))
+      pub along_underivable : {r : program.Ended} → n ≡ theory.no_step → r ≡ end_as Underivable made q.known → Ran on s reps k budget front out₀ r lines out
+      along_underivable p same = along_end Underivable same (machine_underivable on (entry_at s) (count_of s) (goal_of s) a.state (budget - made) (tested ∙ unmet) (sym found ∙ p))
 
       -- x is the number of the next step
       module _ {x : ℕ} (next : (x ≡ n) × (x < theory.no_step)) where
@@ -138,10 +143,10 @@ module _ {s keys reps : List ℕ} {k : Knowledge} {budget front : ℕ} {out₀ :
         some : ¬ (x ≡ theory.no_step)
         some p = omega (arith, next.1, p)
 
-        pub along_exhausted : made ≡ budget → Ran on s reps k budget front out₀ (end_as Exhausted made q.known) lines out
-        along_exhausted p =
+        pub along_exhausted : {r : program.Ended} → made ≡ budget → r ≡ end_as Exhausted made q.known → Ran on s reps k budget front out₀ r lines out
+        along_exhausted p same =
             let spent : budget - made ≡ 0 = omega (arith, p) in
-            along_end Exhausted (ap (λ (b : ℕ). end_of on s b a.state) spent ∙ machine_exhausted on (entry_at s) (count_of s) (goal_of s) a.state (tested ∙ unmet) (λ w. some (is_next ∙ w)))
+            along_end Exhausted same (ap (λ (b : ℕ). end_of on s b a.state) spent ∙ machine_exhausted on (entry_at s) (count_of s) (goal_of s) a.state (tested ∙ unmet) (λ w. some (is_next ∙ w)))
 
         -- a step is made
         module _ (less : made < budget) where

@@ -1,7 +1,8 @@
 -- The heads of a list by fours, where the last stands again for those that are missing.
--- Shown: how they are read off the places of the list (`four_read`); four more teach what the list teaches so far (`four_taught`), and are live where the list is (`four_live`). Assumes nothing.
+-- Shown: known heads learnt again change nothing (`filled_taught`); how fours are read off the places of the list (`four_read`); four more teach what the list teaches so far
+-- (`four_taught`), and are live where the list is (`four_live`). Assumes nothing.
 use mathlib.Core.Path.{◌≡◌, refl, sym, ap, ◌∙◌, subst}
-use mathlib.Core.Bool.{Bool}
+use mathlib.Core.Bool.{Bool, true}
 use mathlib.Core.List.Memᴰ
 use mathlib.Core.List.{List, [], ◌∷◌, ◌++◌, Memᴰ}
 use mathlib.Core.Logic.{◌⊎◌, inl, inr, by_cases}
@@ -15,7 +16,7 @@ use Rattle.std.specs.Prelude.{min}
 use Rattle.std.proofs.lemmas.List.{take_all}
 use Rattle.deduction.specs.Elimination.{Knowledge, learn, learn_all, nothing}
 use Rattle.deduction.proofs.Elimination as elimination
-use Rattle.start.specs.Inner.Heads.{head_or_last, four_from}
+use Rattle.start.specs.Inner.Heads.{head_or_last, four_from, stands}
 use Rattle.start.specs.Inner.Hearing.{Live}
 use Rattle.start.proofs.Laws.Lists.{get_d_member}
 use Rattle.start.proofs.Laws.Repeats.{stands_at, taught_again}
@@ -29,6 +30,16 @@ taught_both : (f : ℕ → ℕ) (k : Knowledge) (xs ys : List ℕ) → learn_all
 unfolding learn_all
 taught_both f k [] ys = refl
 taught_both f k (x ∷ xs) ys = taught_both f (learn f k x) xs ys
+
+-- heads that stand in a list, put behind it, teach nothing more
+module _ (f : ℕ → ℕ) (es : List ℕ) where
+  again : (hs : List ℕ) → ((x : ℕ) → Memᴰ x hs → stands x es ≡ true) → learn_all f (learn_all f nothing es) hs ≡ learn_all f nothing es
+  unfolding learn_all
+  again [] h = refl
+  again (x ∷ hs) h = ap (λ (k : Knowledge). learn_all f k hs) (taught_again f es x (h x (Memᴰ.head refl))) ∙ again hs (λ y m. h y (Memᴰ.tail m))
+
+  pub filled_taught : (hs : List ℕ) → ((x : ℕ) → Memᴰ x hs → stands x es ≡ true) → learn_all f nothing (es ++ hs) ≡ learn_all f nothing es
+  filled_taught hs h = taught_both f nothing es hs ∙ again hs h
 
 -- four read off the first places of a list
 module _ (list : List ℕ) (len : ℕ) (room : len ≤ length list) (some : 0 < len) where

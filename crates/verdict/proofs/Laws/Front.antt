@@ -1,6 +1,6 @@
 -- The front of the buffer: which sets stand there, and how they are written. Assumes nothing.
 use mathlib.Core.Path.{◌≡◌, sym, ap, ap₂, ◌∙◌}
-use mathlib.Core.Bool.{cond}
+use mathlib.Core.Bool.{true, false, cond}
 use mathlib.Core.List.{List, ◌++◌, append_assoc}
 use Prim.Native.Nat.{ℕ, ◌+◌, ◌-◌, ◌≤◌}
 use native.Mathlib.Omega.{arith}
@@ -16,6 +16,15 @@ use Rattle.derive.proofs.Laws.Written.{with_set, set_stored}
 use Rattle.verdict.specs.Buffer.{front}
 use Rattle.verdict.specs.Answer.{missing_by, front_bytes}
 use Rattle.verdict.specs.Inner.Decide.{missing_in}
+
+-- with sum what is missing is the line, and without it the set itself
+pub missing_with_sum : (on : Setting) (line : Reduced) (v : ℕ) → on 6 ≡ true → missing_in on line v ≡ line
+unfolding missing_in
+missing_with_sum on line v w = rw w
+
+pub missing_without_sum : (on : Setting) (line : Reduced) (v : ℕ) → on 6 ≡ false → missing_in on line v ≡ record { remainder = v; used = 0 }
+unfolding missing_in
+missing_without_sum on line v w = rw w
 
 -- with the line that the rows leave it is what is missing by them
 pub missing_by_rows : (on : Setting) (line : Reduced) (rows : List Row) (v : ℕ) → line ≡ reduce rows v → missing_in on line v ≡ missing_by on rows v

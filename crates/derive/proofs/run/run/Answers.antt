@@ -59,15 +59,15 @@ loop-users-init c = let s = c.args.sheet.bytes.now in
 
 pub returns-then-holds : goal.returns-then-holds
 returns-then-holds c = λ k p l. let (z, a) = c.loop-users.invariant in
-    along_derivable z (a k p l) c.holds.ensures c.if-holds.true
+    along_derivable z (a k p l) c.holds.ensures c.if-holds.true c.end_as.ensures
 
 pub returns-in_default : goal.returns-in_default
 returns-in_default c = λ k p l. let (z, a) = c.loop-users.invariant in
-    along_underivable z (a k p l) c.holds.ensures c.if-holds.false c.in_default.ensures
+    along_underivable z (a k p l) c.holds.ensures c.if-holds.false c.in_default.ensures c.end_as-in_default.ensures
 
 pub returns-then-made-budget : goal.returns-then-made-budget
 returns-then-made-budget c = λ k p l. let (z, a) = c.loop-users.invariant in
-    along_exhausted z (a k p l) c.holds.ensures c.if-holds.false c.in-Some.ensures (omega arith)
+    along_exhausted z (a k p l) c.holds.ensures c.if-holds.false c.in-Some.ensures (omega arith) c.end_as-then-made-budget.ensures
 
 pub loop-users-preserved : goal.loop-users-preserved
 loop-users-preserved c = let (z, a) = c.loop-users.invariant in
