@@ -65,7 +65,7 @@ fn trace_heads(sheet: Sheet, cut: u16, tables: &Tables, heads: &mut Heads)
 }
 
 // Hears one head: its line is taken off the others, and what was left of it goes into the state. It is made part of `hear_four`, so that the state isn't copied
-// at each head. `inline(always)` would do that before the copies within it are gone, which leaves one more of the state for each four.
+// at each head. With `inline(always)` one more copy of the state was counted for each four.
 #[inline]
 fn hear_one(state: Knowledge, e: u8, lines: &mut Lines) -> Knowledge
     requires { Hearable (e ∷ []) state lines.old }
